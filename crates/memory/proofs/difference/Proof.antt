@@ -1,0 +1,13 @@
+-- `memory::difference` meets its contract. Assumes nothing.
+use borrow.Author.Tests.{eq-eqb, ne-eqb}
+use Rattle.memory.proofs.difference.Statement.{statement}
+use Rattle.memory.proofs.difference.Tie as tie
+
+returns : tie.Need-returns
+returns c = rw (eq-eqb _ _ (c .if1 .taken))
+
+returns-2 : tie.Need-returns-2
+returns-2 c = rw (ne-eqb _ _ (c .if1 .left))
+
+pub difference-spec : {M : Type 1} → statement M
+difference-spec = tie.close (tie.spec returns returns-2)
