@@ -1,11 +1,9 @@
-// Fields of 1 to 32 bits at any bit address of a lent memory: read, write, memory cycles, states of MOVE.
+// Fields of 1 to 32 bits at any bit address of a lent memory: read and write.
 ghost use mathlib.Core.Path.{_≡_};
 ghost use Prim.Native.Nat.{ℕ, _+_, _*_, _/_, _%_, _^_, _<_, _≤_};
 ghost use lib.ListN.{length};
-ghost use Rattle.memory.specs.Bits.{bitAt, number, withBits, withField};
-ghost use Rattle.field.specs.Field.{refusal, badSize, fieldRead, fieldWritten};
-
-mod cycles;
+ghost use Rattle.memory.specs.Bits.{Memory, bitAt, number, withBits, withField};
+ghost use Rattle.field.specs.Field.{refusal, register, fieldRead, fieldWritten};
 
 // The answer, 0 or the refusal's number, and the register of 32 bits.
 pub struct FieldRead {
@@ -15,32 +13,148 @@ pub struct FieldRead {
 
 // Reads a field into a register, zero or sign extended. The memory stays as lent.
 pub fn read(memory: &mut [u16], address: u32, size: u32, signed: bool) -> FieldRead
-    ensures { λ r. ⌜ r ≡ fieldRead (now (memory .entry)) address size signed ⌝ }
-    ensures { λ _. ⌜ now (memory .exit) ≡ now (memory .entry) ⌝ }
+    ensures { λ r. ⌜ (r ≡ fieldRead (now (memory .entry)) address size signed) × (now (memory .exit) ≡ now (memory .entry)) ⌝ }
 {
-    let refused = refusal_of(memory.len(), address, size);
-    if refused != 0 {
-        return FieldRead {
-            answer: refused,
-            value: 0,
-        };
+    let answer = refusal_of(memory.len(), address, size);
+    if answer != 0 {
+        return FieldRead { answer, value: 0 };
     }
-    let bits = read_bits(memory, address as u64, size as u64);
-    FieldRead {
-        answer: 0,
-        value: extended(bits, size as u64, signed),
-    }
+    let value = read_register(memory, address as u64, size as u64, signed);
+    FieldRead { answer, value }
 }
 
 // Writes the low bits of a register to a field, and answers 0 or the refusal's number.
 pub fn write(memory: &mut [u16], address: u32, size: u32, value: u32) -> u32
-    ensures { λ r. ⌜ r ≡ refusal (length (now (memory .entry))) address size ⌝ }
-    ensures { λ _. ⌜ now (memory .exit) ≡ fieldWritten (now (memory .entry)) address size value ⌝ }
+    ensures { λ r. ⌜ (r ≡ refusal (length (now (memory .entry))) address size) × (now (memory .exit) ≡ fieldWritten (now (memory .entry)) address size value) ⌝ }
 {
-    let refused = refusal_of(memory.len(), address, size);
-    if refused != 0 {
-        return refused;
+    let answer = refusal_of(memory.len(), address, size);
+    if answer != 0 {
+        return answer;
     }
     write_bits(memory, address as u64, size as u64, value as u64);
+    answer
+}
+
+// The refusal's number of a field call, or 0.
+fn refusal_of(words: usize, address: u32, size: u32) -> u32
+    ensures { λ r. ⌜ r ≡ refusal words address size ⌝ }
+{
+    if memory::no_memory(words) {
+        return 10;
+    }
+    if (size == 0) | (32 < size) {
+        return 18;
+    }
+    if 16 * (words as u64) < address as u64 + size as u64 {
+        return 17;
+    }
     0
+}
+
+// The register after a read.
+fn read_register(memory: &[u16], address: u64, size: u64, signed: bool) -> u32
+    requires { ⌜ (0 < size) × (size ≤ 32) × (address + size ≤ 16 * length (now memory)) ⌝ }
+    ensures { λ r. ⌜ r ≡ register (now (memory .entry)) address size signed ⌝ }
+{
+    let bits = read_bits(memory, address, size);
+    let top = taken(bits, size - 1, 1);
+    if signed & (top == 1) {
+        return (bits + (4294967296 - power(size))) as u32;
+    }
+    bits as u32
+}
+
+// The field's bits as a number.
+fn read_bits(memory: &[u16], address: u64, size: u64) -> u64
+    requires { ⌜ (0 < size) × (size ≤ 32) × (address + size ≤ 16 * length (now memory)) ⌝ }
+    ensures { λ r. ⌜ r ≡ number (bitAt (now (memory .entry))) address size ⌝ }
+{
+    let s = address % 16;
+    let v = window(memory, (address / 16) as usize, (s + size + 15) / 16);
+    taken(v, s, size)
+}
+
+// Writes the low bits of a number to the field, and no other bit.
+fn write_bits(memory: &mut [u16], address: u64, size: u64, x: u64)
+    requires { ⌜ (0 < size) × (size ≤ 32) × (address + size ≤ 16 * length (now memory)) ⌝ }
+    ensures { λ _. ⌜ now (memory .exit) ≡ withField (now (memory .entry)) address size x ⌝ }
+{
+    let s = address % 16;
+    let at = (address / 16) as usize;
+    let count = (s + size + 15) / 16;
+    let v = window(memory, at, count);
+    let w = put(v, s, size, x);
+    store(memory, at, count, w);
+}
+
+// One to three words as one number, the first lowest.
+fn window(memory: &[u16], at: usize, count: u64) -> u64
+    requires { ⌜ (0 < count) × (count ≤ 3) × (at + count ≤ length (now memory)) ⌝ }
+    ensures { λ r. ⌜ r ≡ number (bitAt (now (memory .entry))) (16 * at) (16 * count) ⌝ }
+{
+    let a = wide(memory[at]);
+    if count == 1 {
+        return a;
+    }
+    let b = wide(memory[at + 1]);
+    if count == 2 {
+        return a + 65536 * b;
+    }
+    let c = wide(memory[at + 2]);
+    a + 65536 * (b + 65536 * c)
+}
+
+// Stores the lowest one to three words of a number, the lowest first.
+fn store(memory: &mut [u16], at: usize, count: u64, v: u64)
+    requires { ⌜ (0 < count) × (count ≤ 3) × (at + count ≤ length (now memory)) × Memory (length (now memory)) (now memory) ⌝ }
+    ensures { λ _. ⌜ now (memory .exit) ≡ withField (now (memory .entry)) (16 * at) (16 * count) v ⌝ }
+{
+    memory[at] = (v % 65536) as u16;
+    if count == 1 {
+        return;
+    }
+    memory[at + 1] = (v / 65536 % 65536) as u16;
+    if count == 2 {
+        return;
+    }
+    memory[at + 2] = (v / 65536 / 65536 % 65536) as u16;
+}
+
+// A number with the n low bits of x in the place of its bits s to s + n - 1.
+fn put(v: u64, s: u64, n: u64, x: u64) -> u64
+    requires { ⌜ (s < 16) × (n ≤ 32) × (v < 2 ^ 48) ⌝ }
+    ensures { λ r. ⌜ r ≡ withBits v s n x ⌝ }
+{
+    v - (taken(v, s, n) << s) + (low(x, n) << s)
+}
+
+// The n bits of a number from bit s on.
+fn taken(v: u64, s: u64, n: u64) -> u64
+    requires { ⌜ (s < 64) × (n < 64) ⌝ }
+    ensures { λ r. ⌜ r ≡ v / 2 ^ s % 2 ^ n ⌝ }
+{
+    low(v >> s, n)
+}
+
+// The n low bits of a number.
+fn low(x: u64, n: u64) -> u64
+    requires { ⌜ n < 64 ⌝ }
+    ensures { λ r. ⌜ r ≡ x % 2 ^ n ⌝ }
+{
+    x & (power(n) - 1)
+}
+
+// A power of two.
+fn power(n: u64) -> u64
+    requires { ⌜ n < 64 ⌝ }
+    ensures { λ r. ⌜ r ≡ 2 ^ n ⌝ }
+{
+    1 << n
+}
+
+// A word as a number of 64 bits.
+fn wide(w: u16) -> u64
+    ensures { λ r. ⌜ (r ≡ w) × (r < 65536) ⌝ }
+{
+    w as u64
 }

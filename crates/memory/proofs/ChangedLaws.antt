@@ -9,9 +9,9 @@ use native.Mathlib.Omega.{arith}
 use borrow.Author.Tests.{eq-eqb, eqb-true, ltb-true, ltb-false}
 use lib.Dec.{eqb, ltb}
 use lib.ListN.{length}
-use Rattle.memory.specs.Bits.{bitAt}
+use Rattle.memory.specs.Bits.{Memory, bitAt}
 use Rattle.memory.specs.Changed.{differs, differing, changedBits}
-use Rattle.memory.proofs.MemoryLaws.{Memory, memory-ext}
+use Rattle.memory.proofs.MemoryLaws.{memory-ext}
 
 pub differs-le : (b c : ℕ) → differs b c ≤ 1
 differs-le b c = go (eqb b c)
