@@ -3,7 +3,7 @@ ghost use mathlib.Core.Path.{_≡_};
 ghost use Prim.Native.Nat.{ℕ, _+_, _*_, _/_, _%_, _^_, _<_, _≤_};
 ghost use lib.ListN.{length};
 ghost use Rattle.memory.specs.Bits.{Memory, bitAt, number, withBits, withField};
-ghost use Rattle.field.specs.Field.{refusal, register, fieldRead, fieldWritten};
+ghost use Rattle.field.specs.Field.{badSize, refusal, register, fieldRead, fieldWritten};
 
 // The answer, 0 or the refusal's number, and the register of 32 bits.
 pub struct FieldRead {
@@ -35,6 +35,13 @@ pub fn write(memory: &mut [u16], address: u32, size: u32, value: u32) -> u32
     answer
 }
 
+// Refusal 18: is this no field size?
+pub fn bad_size(size: u32) -> bool
+    ensures { λ r. ⌜ r ≡ badSize size ⌝ }
+{
+    (size == 0) | (32 < size)
+}
+
 // The refusal's number of a field call, or 0.
 fn refusal_of(words: usize, address: u32, size: u32) -> u32
     ensures { λ r. ⌜ r ≡ refusal words address size ⌝ }
@@ -42,7 +49,7 @@ fn refusal_of(words: usize, address: u32, size: u32) -> u32
     if memory::no_memory(words) {
         return 10;
     }
-    if (size == 0) | (32 < size) {
+    if bad_size(size) {
         return 18;
     }
     if 16 * (words as u64) < address as u64 + size as u64 {

@@ -1,13 +1,13 @@
 -- States of MOVE memory to register (the scope, "Fields"; 000 table 13-1). Assumes nothing.
 use mathlib.Core.Bool.{Bool, cond}
 use Prim.Native.Nat.{ℕ, _+_, _%_}
 use Rattle.field.specs.Field.{badSize}
-use Rattle.field.specs.Cycles.{caseOf}
-use Rattle.field.specs.declared.Case.{Case}
-use Rattle.field.specs.declared.Case.the-variants.{A, B, C, D, E, F, G}
-use Rattle.field.specs.declared.Mode.{Mode}
-use Rattle.field.specs.declared.Mode.the-variants.{Indirect, Postincrement, Predecrement}
-use Rattle.field.specs.declared.States.{States}
+use Rattle.timing.specs.Cycles.{caseOf}
+use Rattle.timing.specs.declared.Case.{Case}
+use Rattle.timing.specs.declared.Case.the-variants.{A, B, C, D, E, F, G}
+use Rattle.timing.specs.declared.Mode.{Mode}
+use Rattle.timing.specs.declared.Mode.the-variants.{Indirect, Postincrement, Predecrement}
+use Rattle.timing.specs.declared.States.{States}
 
 -- indirect, in cache: 3 for A, B; 5 for C to F; 7 for G
 abbrev pub cachedStates : Case → ℕ
@@ -29,6 +29,9 @@ uncachedStates E = 8
 uncachedStates F = 8
 uncachedStates G = 10
 
+abbrev pub baseStates : Case → Bool → ℕ
+baseStates k cached = cond cached (cachedStates k) (uncachedStates k)
+
 -- postincrement is as indirect, predecrement is one more in each
 abbrev pub modeStates : Mode → ℕ
 modeStates Indirect = 0
@@ -44,7 +47,4 @@ unfoldable pub moveStates : ℕ → ℕ → Mode → Bool → Bool → States
 moveStates a n mode signed cached =
     cond (badSize n)
     (record { answer = 18; states = 0 })
-    (record {
-      answer = 0;
-      states = cond cached (cachedStates (caseOf (a % 16) n)) (uncachedStates (caseOf (a % 16) n)) + modeStates mode + signStates signed;
-    })
+    (record { answer = 0; states = baseStates (caseOf (a % 16) n) cached + modeStates mode + signStates signed })

@@ -1,0 +1,66 @@
+-- `timing::case_of` meets its contract. Assumes nothing.
+use mathlib.Core.Path.{sym}
+use Prim.Native.Nat.{_+_}
+use lib.Dec.{ltb}
+use Rattle.timing.specs.Cycles.{caseOf}
+use Rattle.timing.specs.declared.Case.the-variants.{G}
+use Rattle.timing.proofs.CaseLaws.{cond-same}
+use borrow.Author.Needs.{needs}
+use Rattle.timing.proofs.case_of.Statement.{statement}
+use Rattle.timing.proofs.case_of.Tie as tie
+
+returns : tie.Need-returns
+unfolding caseOf
+returns c = rw (c .if1 .taken)
+
+add-if2 : tie.Need-add-if2
+add-if2 c = search needs
+
+returns-2 : tie.Need-returns-2
+unfolding caseOf
+returns-2 c = rw (c .before .if1 .left, c .if2 .taken)
+
+returns-3 : tie.Need-returns-3
+unfolding caseOf
+returns-3 c = rw (c .before .before .if1 .left, c .before .if2 .left, c .if3 .taken)
+
+add-if4 : tie.Need-add-if4
+add-if4 c = search needs
+
+returns-4 : tie.Need-returns-4
+unfolding caseOf
+returns-4 c = rw (c .before .before .before .if1 .left, c .before .before .if2 .left, c .before .if3 .left, c .if4 .taken)
+
+returns-5 : tie.Need-returns-5
+unfolding caseOf
+returns-5 c = rw (c .before .before .before .before .if1 .left, c .before .before .before .if2 .left, c .before .before .if3 .left, c .before .if4 .left, c .if5 .taken)
+
+add-if6 : tie.Need-add-if6
+add-if6 c = search needs
+
+add-if6-2 : tie.Need-add-if6-2
+add-if6-2 c = search needs
+
+returns-6 : tie.Need-returns-6
+unfolding caseOf
+returns-6 c = rw (c .before .before .before .before .before .if1 .left, c .before .before .before .before .if2 .left, c .before .before .before .if3 .left, c .before .before .if4 .left, c .before .if5 .left, c .if6 .taken)
+
+returns-7 : tie.Need-returns-7
+unfolding caseOf
+returns-7 c = rw (c .before .before .before .before .before .if1 .left, c .before .before .before .before .if2 .left, c .before .before .before .if3 .left, c .before .before .if4 .left, c .before .if5 .left, c .if6 .left) (sym (cond-same (ltb 32 (c .before .before .before .before .before .before .args .s + c .before .before .before .before .before .before .args .n)) G))
+
+pub case-of-spec : {M : Type 1} → statement M
+case-of-spec =
+    tie.close
+    (tie.spec
+    returns
+    add-if2
+    returns-2
+    returns-3
+    add-if4
+    returns-4
+    returns-5
+    add-if6
+    add-if6-2
+    returns-6
+    returns-7)
