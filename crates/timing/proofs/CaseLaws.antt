@@ -2,13 +2,12 @@
 -- Assumes nothing.
 use mathlib.Core.Path.{_≡_, refl, sym, ap, _∙_}
 use mathlib.Core.Bool.{Bool, true, false, cond, _&&_}
-use Prim.Native.Nat.{ℕ, zero, suc, _-_, _<_}
+use Prim.Native.Nat.{ℕ, zero, suc, _-_, _≤_, _<_}
 use native.Mathlib.Omega.{arith}
 use borrow.Author.Tests.{ltb-true, ltb-false, eqb-true}
 use lib.Dec.{eqb, ltb}
 use Rattle.memory.proofs.Tests.{and-true-left, and-true-right}
-use Rattle.timing.specs.Cycles.{isCase, caseOf}
-use Rattle.timing.specs.Statements.{holding, OneCase}
+use Rattle.timing.specs.Cycles.{isCase, cases, caseOf, holding}
 
 pub cond-same : {A : Type 0} (b : Bool) (x : A) → cond b x x ≡ x
 cond-same true x = refl
@@ -31,19 +30,19 @@ below (suc k) f e i h = go (below k f (and-true-right (f k) (allBelow k f) e) i)
 
 -- at alignment s and size n + 1 one case holds, and it is the one that `caseOf` gives
 one : ℕ → ℕ → Bool
-one s n = eqb (holding s (suc n)) 1 && isCase (caseOf s (suc n)) s (suc n)
+one s n = eqb (holding cases s (suc n)) 1 && isCase (caseOf s (suc n)) s (suc n)
 
 all-one : allBelow 16 (λ s. allBelow 32 (one s)) ≡ true
 unfolding one caseOf
 all-one = refl
 
-pub one-case : OneCase
+pub one-case : (s n : ℕ) → s < 16 → 0 < n → n ≤ 32 → (holding cases s n ≡ 1) × (isCase (caseOf s n) s n ≡ true)
 unfolding one
 one-case s n hs p hn =
-    let t : ℕ → Bool = λ k. eqb (holding s k) 1 && isCase (caseOf s k) s k in
+    let t : ℕ → Bool = λ k. eqb (holding cases s k) 1 && isCase (caseOf s k) s k in
     let z : suc (n - 1) ≡ n = omega arith in
     let e : t n ≡ true =
     ap t (sym z) ∙ below 32 (one s) (below 16 (λ i. allBelow 32 (one i)) all-one s hs) (n - 1) (omega arith) in (
-      eqb-true (holding s n) 1 (and-true-left (eqb (holding s n) 1) (isCase (caseOf s n) s n) e),
-      and-true-right (eqb (holding s n) 1) (isCase (caseOf s n) s n) e,
+      eqb-true (holding cases s n) 1 (and-true-left (eqb (holding cases s n) 1) (isCase (caseOf s n) s n) e),
+      and-true-right (eqb (holding cases s n) 1) (isCase (caseOf s n) s n) e,
     )

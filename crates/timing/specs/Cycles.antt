@@ -31,6 +31,11 @@ firstCase (k ∷ ks) s n = cond (isCase k s n) k (firstCase ks s n)
 unfoldable pub caseOf : ℕ → ℕ → Case
 caseOf s n = firstCase cases s n
 
+-- how many cases of the list a field is of
+abbrev pub holding : List Case → ℕ → ℕ → ℕ
+holding [] s n = 0
+holding (k ∷ ks) s n = cond (isCase k s n) 1 0 + holding ks s n
+
 -- memory cycles of a read, and of a write
 abbrev pub readCycles : Case → ℕ
 readCycles A = 1

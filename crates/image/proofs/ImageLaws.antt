@@ -1,0 +1,20 @@
+-- Laws of `specs/Image.antt`. No contract cites this file. Assumes nothing.
+use mathlib.Core.Path.{_≡_, refl}
+use mathlib.Core.List.{[], _∷_}
+use Prim.Native.Nat.{ℕ, zero, suc, _*_}
+use native.Mathlib.Omega.{arith}
+use lib.ListN.{length, length-take}
+use Rattle.image.specs.Image.{stepped, draws, image}
+
+pub length-draws : (k x : ℕ) → length (draws k x) ≡ 4 * k
+length-draws zero x = refl
+length-draws (suc k) x = omega (arith, length-draws k (stepped x))
+
+-- n draws are enough for n words
+pub length-image : (n seed : ℕ) → length (image n seed) ≡ n
+length-image n seed = omega (arith, length-take n (draws n seed), length-draws n seed)
+
+-- scope, "Figures at the edge": seed 1
+pub figure : image 4 1 ≡ 0x2041 ∷ 0x4082 ∷ 0 ∷ 0 ∷ []
+unfolding stepped
+figure = refl

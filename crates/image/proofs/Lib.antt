@@ -1,0 +1,4 @@
+pub mod XorLaws
+pub mod SeedLaws
+pub mod ImageLaws
+pub mod FillLaws

@@ -1,0 +1,44 @@
+-- The image of a seed (the scope, "Plans and images"). Assumes nothing.
+use mathlib.Core.Bool.{cond}
+use mathlib.Core.List.{List, [], _∷_, _++_}
+use Prim.Native.Nat.{ℕ, zero, suc, _*_, _/_, _%_, _^_}
+use lib.Bits.{bitXor}
+use lib.ListN.{length, take}
+use Rattle.memory.specs.Bits.{noMemory}
+
+-- x xor (x shifted left k, low 64 bits)
+abbrev pub xorLeft : ℕ → ℕ → ℕ
+xorLeft k x = bitXor x (x * 2 ^ k % 2 ^ 64)
+
+-- x xor (x shifted right k)
+abbrev pub xorRight : ℕ → ℕ → ℕ
+xorRight k x = bitXor x (x / 2 ^ k)
+
+-- the generator advanced at a draw: xor left 13, then xor right 7, then xor left 17
+unfoldable pub stepped : ℕ → ℕ
+stepped x =
+    let a = xorLeft 13 x in
+    let b = xorRight 7 a in
+    xorLeft 17 b
+
+-- the k low words of x, lowest first
+abbrev pub words : ℕ → ℕ → List ℕ
+words zero x = []
+words (suc k) x = x % 2 ^ 16 ∷ words k (x / 2 ^ 16)
+
+-- k draws, starting at x: each new x gives four words, lowest first
+abbrev pub draws : ℕ → ℕ → List ℕ
+draws zero x = []
+draws (suc k) x = words 4 (stepped x) ++ draws k (stepped x)
+
+-- the image over a memory of n words: start at SEED, cut off at the memory's end (n draws are enough: `length-image`)
+abbrev pub image : ℕ → ℕ → List ℕ
+image n seed = take n (draws n seed)
+
+-- an image is asked of a memory: refusal 10, or 0
+abbrev pub refusal : ℕ → ℕ
+refusal words = cond (noMemory words) 10 0
+
+-- the memory after it
+unfoldable pub imaged : List ℕ → ℕ → List ℕ
+imaged m seed = cond (noMemory (length m)) m (image (length m) seed)

@@ -1,0 +1,700 @@
+/* Checks the model against the scope's figures and example, and against cases worked out by hand.
+   Prints `N passed, M failed`. */
+#include "model.h"
+
+#include <string.h>
+
+static int passed;
+static int failed;
+
+/* Counts one check; a failed one is named. */
+static void check(const char *what, bool holds)
+{
+    if (holds) {
+        passed = passed + 1;
+    } else {
+        failed = failed + 1;
+        printf("failed: %s\n", what);
+    }
+}
+
+#define WORDS 12000
+
+static uint16_t big[WORDS];
+static uint16_t other[WORDS];
+
+static struct memory memory_of(uint16_t *word, uint64_t words)
+{
+    struct memory m = { word, words };
+    return m;
+}
+
+/* Settings with everything 0 but the pixel size, and pitches that suit every array. */
+static struct settings plain_settings(uint16_t psize)
+{
+    struct settings s;
+    memset(&s, 0, sizeof s);
+    s.PSIZE = psize;
+    s.SPTCH = 64;
+    s.DPTCH = 64;
+    return s;
+}
+
+static uint16_t control(uint32_t pp, uint32_t w, uint32_t t)
+{
+    return (uint16_t)((pp << 10) | (w << 6) | (t << 5));
+}
+
+/* ---- Fields ---- */
+
+/* "Size 8 at address 12 over words F000h, 000Ah reads AFh, signed FFFFFFAFh; case F." */
+static void test_field_figure(void)
+{
+    uint16_t word[2] = { 0xF000, 0x000A };
+    struct memory m = memory_of(word, 2);
+    check("field AFh", field_read(m, 12, 8, false).value == 0xAF);
+    check("field FFFFFFAFh", field_read(m, 12, 8, true).value == 0xFFFFFFAFu);
+    check("field case F", field_case(12, 8) == 'F');
+    check("field cycles F", field_cycles(12, 8).read == 2 && field_cycles(12, 8).write == 4);
+    check("field states F", move_states(12, 8, INDIRECT, false, true).states == 5);
+    check("field states F, predecrement, signed, without cache",
+          move_states(12, 8, PREDECREMENT, true, false).states == 10);
+}
+
+/* "a field call checks 10, 18, 17 in that order"; "a cycle or state count only 18" */
+static void test_field_refusals(void)
+{
+    uint16_t word[2] = { 1, 2 };
+    check("field 10", field_read(memory_of(word, 0), 0, 0, false).answer == 10);
+    check("field 10 above", field_write(memory_of(word, 1048577), 0, 1, 0) == 10);
+    check("field 18", field_read(memory_of(word, 2), 0xFFFFFFFFu, 33, false).answer == 18);
+    check("field 17", field_write(memory_of(word, 2), 25, 8, 0) == 17);
+    check("field at the end", field_write(memory_of(word, 2), 24, 8, 0xFF) == 0
+          && word[0] == 1 && word[1] == 0xFF02);
+    check("cycles 18", field_cycles(0, 0).answer == 18 && field_cycles(0, 0).read == 0);
+    check("states 18", move_states(0, 33, INDIRECT, true, true).answer == 18
+          && move_states(0, 33, INDIRECT, true, true).states == 0);
+}
+
+/* Every size at every alignment has a case. */
+static void test_field_cases(void)
+{
+    bool all = true;
+    for (uint32_t size = 1; size <= 32; size++) {
+        for (uint32_t s = 0; s < 16; s++) {
+            if (field_case(s, size) == '?')
+                all = false;
+        }
+    }
+    check("every field has a case", all);
+}
+
+/* ---- Cache, image, changed ---- */
+
+/* "Fresh cache, fetches at 0, 64, 16, 512, 1024, 1536, 2048, 0: segment, subsegment, hit, then
+   five segment misses." */
+static void test_cache_figure(void)
+{
+    static const uint32_t address[8] = { 0, 64, 16, 512, 1024, 1536, 2048, 0 };
+    static const enum hit_kind kind[8] = { SEGMENT_MISS, SUBSEGMENT_MISS, HIT, SEGMENT_MISS,
+                                           SEGMENT_MISS, SEGMENT_MISS, SEGMENT_MISS,
+                                           SEGMENT_MISS };
+    struct cache c = cache_fresh();
+    for (int i = 0; i < 8; i++) {
+        struct fetch_answer r = cache_fetch(c, address[i], 0);
+        check("cache figure", r.kind == kind[i]);
+        c = r.next;
+    }
+    check("cache disabled", cache_fetch(c, 0, 0x8000).kind == DISABLED);
+    c.order[0] = c.order[1];
+    check("cache 19", cache_fetch(c, 0, 0x8000).kind == FETCH_REFUSED);
+}
+
+/* "Seed 1: first words 2041h, 4082h, 0, 0." */
+static void test_image_figure(void)
+{
+    uint16_t word[5] = { 9, 9, 9, 9, 9 };
+    image_make(memory_of(word, 4), 1);
+    check("image figure", word[0] == 0x2041 && word[1] == 0x4082 && word[2] == 0 && word[3] == 0);
+    check("image cut off", word[4] == 9);
+}
+
+/* The bits of 16 words that differ, with a shorter memory. */
+static void test_changed(void)
+{
+    uint16_t a[2] = { 0x00FF, 0x8001 };
+    uint16_t b[2] = { 0x0F0F, 0x8001 };
+    check("changed", changed_bits(memory_of(a, 2), memory_of(b, 2)).count == 8);
+    check("changed past the end", changed_bits(memory_of(a, 1), memory_of(b, 2)).count == 10);
+    check("changed 10", changed_bits(memory_of(a, 0), memory_of(b, 2)).answer == 10);
+}
+
+/* ---- One pixel ---- */
+
+/* "PSIZE 4, S=9, D=12: PP 16 gives 5, 17 gives 15, 18 gives 3. S=12, D=9: 18 gives 13, 19 gives
+   0." */
+static void test_pixel_figures(void)
+{
+    check("PP 16", pixel_operation(16, 4, 9, 12) == 5);
+    check("PP 17", pixel_operation(17, 4, 9, 12) == 15);
+    check("PP 18", pixel_operation(18, 4, 9, 12) == 3);
+    check("PP 18 wraps", pixel_operation(18, 4, 12, 9) == 13);
+    check("PP 19", pixel_operation(19, 4, 12, 9) == 0);
+}
+
+/* PP 0 to 15 on S=0011b, D=0101b give each column of their truth table. */
+static void test_pixel_logic(void)
+{
+    static const uint32_t expected[16] = { 3, 1, 2, 0, 11, 9, 10, 8, 7, 5, 6, 4, 15, 13, 14, 12 };
+    for (uint32_t pp = 0; pp < 16; pp++)
+        check("PP 0 to 15", pixel_operation(pp, 4, 3, 5) == expected[pp]);
+    check("PP 20", pixel_operation(20, 4, 3, 5) == 5);
+    check("PP 21", pixel_operation(21, 4, 3, 5) == 3);
+}
+
+/* "PSIZE 4, PMASK 8888h, replace, S=8: D=13 becomes 8 with T=0 and stays 13 with T=1." */
+static void test_mask_figure(void)
+{
+    struct settings s = plain_settings(4);
+    s.PMASK = 0x8888;
+    s.COLOR1 = 0x8888;
+    for (uint32_t place = 0; place < 4; place++) {
+        uint16_t word[1] = { 0xDDDD };
+        uint32_t address = 4 * place;
+        uint32_t rest = 0xDDDDu & ~(15u << address);
+        s.CONTROL = control(0, 0, 0);
+        pixt_to_linear(memory_of(word, 1), &s, 8, address, 0);
+        check("mask figure, T=0", word[0] == (rest | (8u << address)));
+        word[0] = 0xDDDD;
+        s.CONTROL = control(0, 0, 1);
+        pixt_to_linear(memory_of(word, 1), &s, 8, address, 0);
+        check("mask figure, T=1", word[0] == 0xDDDD);
+    }
+}
+
+/* ---- Drawings ---- */
+
+static struct settings figure_settings(void)
+{
+    struct settings s = plain_settings(4);
+    s.DADDR = 0x004400E4;
+    s.DPTCH = 0x800;
+    s.COLOR1 = 0xFFFF;
+    return s;
+}
+
+/* "DADDR 004400E4h, DPTCH 800h, PSIZE 4, OFFSET 0: 22390h." */
+static void test_linear_figure(void)
+{
+    struct settings s = figure_settings();
+    check("linear figure",
+          xy_linear(&s, x_half(s.DADDR), y_half(s.DADDR), s.DPTCH) == 0x22390);
+}
+
+/* "The same with WSTART 004900EBh, WEND 005F0140h, DYDX 0014003Ch, W=3: 53 by 15, 795 pixels, start
+   24BACh, V=1, DADDR at the end 2C3ACh. 11,208 words are enough; 11,207 give 17." */
+static void test_window_figure(void)
+{
+    struct settings s = figure_settings();
+    s.WSTART = 0x004900EB;
+    s.WEND = 0x005F0140;
+    s.DYDX = 0x0014003C;
+    s.CONTROL = control(0, 3, 0);
+    struct rectangle array = { 0xE4, 0x44, 0x3C, 0x14 };
+    struct window_answer w = window_rule(&s, array, 0);
+    check("window figure, 53 by 15", w.drawn.columns == 53 && w.drawn.rows == 15);
+    check("window figure, start",
+          xy_linear(&s, w.drawn.x, w.drawn.y, s.DPTCH) == 0x24BAC);
+    memset(big, 0, sizeof big);
+    memset(other, 0, sizeof other);
+    struct draw_answer r = draw(memory_of(big, 11208), FILL_XY, &s, 0, 0, UINT64_MAX);
+    check("window figure, answer", r.answer == 0 && r.visited == 795 && r.place == 795);
+    check("window figure, V", r.v == 1 && r.request == 0);
+    check("window figure, DADDR", r.DADDR == 0x2C3AC);
+    check("window figure, others", r.SADDR == s.SADDR && r.DYDX == s.DYDX);
+    check("window figure, memory",
+          changed_bits(memory_of(big, 11208), memory_of(other, 11208)).count == 795 * 4);
+    check("window figure, first and last pixel",
+          pixel_get(memory_of(big, 11208), 0x24BAC, 4) == 15
+          && pixel_get(memory_of(big, 11208), 0x24BA8, 4) == 0
+          && pixel_get(memory_of(big, 11208), 0x2BC7C, 4) == 15);
+    r = draw(memory_of(big, 11207), FILL_XY, &s, 0, 0, 1);
+    check("window figure, 17", r.answer == 17 && r.v == 0 && r.visited == 0 && r.place == 0
+          && r.DADDR == s.DADDR);
+}
+
+/* W 1 and 2 over a window that cuts the array. */
+static void test_window_1_and_2(void)
+{
+    struct settings s = figure_settings();
+    s.WSTART = 0x004900EB;
+    s.WEND = 0x005F0140;
+    s.DYDX = 0x0014003C;
+    s.CONTROL = control(0, 1, 0);
+    memset(big, 0, sizeof big);
+    struct draw_answer r = draw(memory_of(big, 1), FILL_XY, &s, 0, 0, 0);
+    check("W=1 meets", r.answer == 0 && r.v == 1 && r.request == 1 && r.visited == 0);
+    check("W=1 registers", r.DADDR == 0x004900EB && r.DYDX == 0x000F0035);
+    s.WSTART = 0x00000000;
+    s.WEND = 0x00430140;
+    r = draw(memory_of(big, 1), FILL_XY, &s, 0, 1, 0);
+    check("W=1 misses", r.answer == 0 && r.v == 0 && r.request == 0 && r.DADDR == s.DADDR
+          && r.DYDX == s.DYDX);
+    s.CONTROL = control(0, 2, 0);
+    r = draw(memory_of(big, 1), FILL_XY, &s, 0, 0, 5);
+    check("W=2 outside", r.answer == 0 && r.v == 1 && r.request == 1 && r.visited == 0
+          && r.DADDR == s.DADDR);
+    r = draw(memory_of(big, 1), FILL_XY, &s, 1, 0, 5);
+    check("W=2 outside, 15", r.answer == 15 && r.v == 0 && r.request == 0 && r.place == 1);
+    s.WEND = 0x7FFF7FFF;
+    r = draw(memory_of(big, WORDS), FILL_XY, &s, 0, 1, 5);
+    check("W=2 inside", r.answer == 1 && r.v == 0 && r.request == 0 && r.visited == 5
+          && r.DADDR == s.DADDR);
+    s.DYDX = 0x00140000;
+    for (uint32_t w = 1; w < 4; w++) {
+        s.CONTROL = control(0, w, 0);
+        r = draw(memory_of(big, 1), FILL_XY, &s, 0, 1, 5);
+        check("empty array", r.answer == 0 && r.v == 0 && r.request == 0 && r.DADDR == s.DADDR);
+    }
+    s.CONTROL = 0;
+    r = draw(memory_of(big, 1), FILL_XY, &s, 0, 1, 5);
+    check("empty array, W=0", r.answer == 0 && r.v == 1);
+}
+
+/* "Letting X + DX wrap at 16 bits" is a slip: an array from 7FFFh on isn't inside. */
+static void test_no_wrap_in_xy(void)
+{
+    struct settings s = plain_settings(1);
+    s.DADDR = 0x00007FFE;
+    s.DYDX = 0x00018004;
+    s.DPTCH = 1u << 16;
+    s.WSTART = 0x00000000;
+    s.WEND = 0x7FFF7FFF;
+    s.CONTROL = control(12, 3, 0);
+    memset(big, 0, sizeof big);
+    struct draw_answer r = draw(memory_of(big, WORDS), FILL_XY, &s, 0, 0, 100);
+    check("X + DX doesn't wrap", r.answer == 0 && r.visited == 2 && r.v == 1
+          && big[2047] == 0xC000 && big[0] == 0 && big[2048] == 0);
+}
+
+/* Each refusal of a drawing, and that the lowest number is given. */
+static void test_refusals(void)
+{
+    struct settings s = plain_settings(4);
+    struct memory m = memory_of(big, 16);
+    s.DYDX = 0x00010002;
+    check("10", draw(memory_of(big, 0), FILL_L, &s, 0, 0, 9).answer == 10);
+    check("10 above", draw(memory_of(big, 1048577), FILL_L, &s, 0, 0, 9).answer == 10);
+    s.PSIZE = 3;
+    check("11", draw(m, FILL_L, &s, 0, 0, 9).answer == 11);
+    s.PSIZE = 4;
+    s.CONTROL = control(22, 0, 0);
+    check("12, PP", draw(m, FILL_L, &s, 0, 0, 9).answer == 12);
+    s.CONTROL = 0x0100;
+    check("12, PBH", draw(m, FILL_L, &s, 0, 0, 9).answer == 12);
+    s.CONTROL = 0x0200;
+    check("12, PBV", draw(m, FILL_L, &s, 0, 0, 9).answer == 12);
+    s.CONTROL = 0x801F;
+    check("other bits of CONTROL", draw(m, FILL_L, &s, 0, 0, 9).answer == 0);
+    s.CONTROL = 0;
+    s.DPTCH = 48;
+    check("13, linear", draw(m, FILL_L, &s, 0, 0, 9).answer == 0);
+    check("13, XY", draw(m, FILL_XY, &s, 0, 0, 9).answer == 13);
+    s.DPTCH = 8;
+    check("13, small", draw(m, FILL_XY, &s, 0, 0, 9).answer == 13
+          && draw(m, FILL_L, &s, 0, 0, 9).answer == 13);
+    s.DPTCH = 0;
+    check("13, none", draw(m, FILL_XY, &s, 0, 0, 9).answer == 13
+          && draw(m, FILL_L, &s, 0, 0, 9).answer == 0);
+    s.DPTCH = 64;
+    s.SPTCH = 7;
+    check("13, source", draw(m, PIXBLT_L_L, &s, 0, 0, 9).answer == 13
+          && draw(m, PIXBLT_XY_L, &s, 0, 0, 9).answer == 13
+          && draw(m, PIXBLT_B_L, &s, 0, 0, 9).answer == 0
+          && draw(m, FILL_XY, &s, 0, 0, 9).answer == 0);
+    s.SPTCH = 64;
+    s.CONTROL = control(0, 1, 0);
+    s.WSTART = 0x00010000;
+    check("14, start beyond end", draw(m, FILL_XY, &s, 0, 0, 9).answer == 14);
+    check("14, linear", draw(m, PIXBLT_XY_L, &s, 0, 0, 9).answer == 0);
+    s.WSTART = 0xFFFF0000;
+    check("14, negative", draw(m, FILL_XY, &s, 9, 0, 9).answer == 14);
+    s.CONTROL = 0;
+    check("14, W=0", draw(m, FILL_XY, &s, 0, 0, 9).answer == 0);
+    check("15", draw(m, FILL_XY, &s, 3, 0, 9).answer == 15);
+    s.DADDR = 2;
+    check("16, address", draw(m, FILL_L, &s, 0, 0, 9).answer == 16);
+    check("15 before 16", draw(m, FILL_L, &s, 3, 0, 9).answer == 15);
+    s.DYDX = 2;
+    check("16, empty", draw(m, FILL_L, &s, 0, 0, 9).answer == 0);
+    s.DYDX = 0x00010002;
+    s.DADDR = 0x0000FFFF;
+    check("16, negative X", draw(m, FILL_XY, &s, 0, 0, 9).answer == 16);
+    s.DADDR = 0;
+    s.OFFSET = 2;
+    check("16, OFFSET", draw(m, FILL_XY, &s, 0, 0, 9).answer == 16);
+    check("16, OFFSET of a source", draw(m, PIXBLT_XY_L, &s, 0, 0, 9).answer == 16);
+    s.OFFSET = 0;
+    s.SADDR = 0xFFFF0000;
+    check("16, source", draw(m, PIXBLT_XY_L, &s, 0, 0, 9).answer == 16);
+    check("17, source", draw(m, PIXBLT_L_L, &s, 0, 0, 9).answer == 17);
+    s.SADDR = 0;
+    s.DADDR = 252;
+    check("17, destination", draw(m, FILL_L, &s, 0, 0, 1).answer == 17);
+    s.SADDR = 255;
+    s.DADDR = 0;
+    check("17, bits", draw(m, PIXBLT_B_L, &s, 0, 0, 9).answer == 17);
+    s.SADDR = 254;
+    check("bits at the end", draw(m, PIXBLT_B_L, &s, 0, 0, 9).answer == 0);
+}
+
+/* "and each one reads memory as the ones before left it": a copy one pixel to the right spreads
+   the first pixel. */
+static void test_serial_rule(void)
+{
+    uint16_t word[4] = { 0x4321, 0x8765, 0, 0 };
+    struct settings s = plain_settings(4);
+    s.DADDR = 4;
+    s.DYDX = 0x00010007;
+    struct draw_answer r = draw(memory_of(word, 4), PIXBLT_L_L, &s, 0, 1, 100);
+    check("serial rule", word[0] == 0x1111 && word[1] == 0x1111 && word[2] == 0);
+    check("end registers", r.SADDR == 64 && r.DADDR == 68 && r.v == 1 && r.DYDX == s.DYDX);
+}
+
+/* B sources: COLOR1 for 1, COLOR0 for 0, at the destination's place. */
+static void test_binary_source(void)
+{
+    uint16_t word[4] = { 0, 0, 0x000D, 0 };
+    struct settings s = plain_settings(4);
+    s.SADDR = 32;
+    s.SPTCH = 1;
+    s.DPTCH = 16;
+    s.COLOR0 = 0xFFFF4321;
+    s.COLOR1 = 0xFFFF8765;
+    s.DYDX = 0x00020002;
+    struct draw_answer r = draw(memory_of(word, 4), PIXBLT_B_L, &s, 0, 0, 100);
+    check("B source", word[0] == 0x0025 && word[1] == 0x0061 && word[2] == 0x000D);
+    check("B source, registers", r.SADDR == 34 && r.DADDR == 32);
+}
+
+/* "Clipping moves the source start by the same columns and rows, unwrapped in XY." */
+static void test_clipped_source(void)
+{
+    struct settings s = plain_settings(8);
+    s.DPTCH = 64;
+    s.SPTCH = 128;
+    s.DADDR = xy_number(-3, -1);
+    s.SADDR = xy_number(-2, -1);
+    s.OFFSET = 1024;
+    s.DYDX = 0x00030008;
+    s.WSTART = 0;
+    s.WEND = 0x00050005;
+    s.CONTROL = control(0, 3, 0);
+    memset(big, 0, sizeof big);
+    for (int i = 0; i < 32; i++)
+        big[64 + i] = (uint16_t)(0x4000 + i);
+    struct draw_answer r = draw(memory_of(big, 96), PIXBLT_XY_XY, &s, 0, 0, 1000);
+    /* Columns 3 to 7 and rows 1 and 2 are left: the source starts at 1, 0. */
+    check("clipped source", r.answer == 0 && r.visited == 10 && r.v == 1);
+    check("clipped source, registers", r.DADDR == 1024 + 2 * 64 && r.SADDR == 1024 + 8 + 2 * 128);
+    check("clipped source, word", big[64] == 0x0140 && big[65] == 0x0240);
+    s.SADDR = xy_number(-4, -1);
+    check("clipped source, negative", draw(memory_of(big, 96), PIXBLT_XY_XY, &s, 0, 0, 1).answer
+          == 16);
+    s.SADDR = 96;
+    r = draw(memory_of(big, 96), PIXBLT_B_XY, &s, 0, 0, 1000);
+    check("clipped B source", r.answer == 0 && r.SADDR == 96 + 128 + 3 + 2 * 128);
+    r = draw(memory_of(big, 96), PIXBLT_L_XY, &s, 0, 0, 1000);
+    check("clipped linear source", r.answer == 0 && r.SADDR == 96 + 128 + 3 * 8 + 2 * 128);
+}
+
+/* "row addresses wrap modulo 2^32": a pitch near 2^32 walks towards lower addresses. */
+static void test_wrapping_pitch(void)
+{
+    uint16_t word[4] = { 0, 0, 0, 0 };
+    struct settings s = plain_settings(16);
+    s.DADDR = 48;
+    s.DPTCH = 0xFFFFFFF0u;
+    s.COLOR1 = 0x1234;
+    s.DYDX = 0x00030001;
+    struct draw_answer r = draw(memory_of(word, 4), FILL_L, &s, 0, 0, 100);
+    check("wrapping pitch", r.answer == 0 && word[0] == 0 && word[1] == 0x1234
+          && word[2] == 0x1234 && word[3] == 0x1234 && r.DADDR == 0);
+}
+
+/* Budget 0, the place at the end, and slices against the whole drawing. */
+static void test_slices(void)
+{
+    struct settings s = plain_settings(4);
+    s.DADDR = 8;
+    s.SADDR = 0;
+    s.SPTCH = 32;
+    s.DPTCH = 48;
+    s.DYDX = 0x00050007;
+    s.PMASK = 0x2401;
+    s.CONTROL = control(16, 0, 1);
+    image_make(memory_of(big, 40), 77);
+    image_make(memory_of(other, 40), 77);
+    struct draw_answer whole = draw(memory_of(big, 40), PIXBLT_L_L, &s, 0, 0, 35);
+    check("whole", whole.answer == 0 && whole.visited == 35);
+    struct draw_answer r = draw(memory_of(other, 40), PIXBLT_L_L, &s, 0, 0, 0);
+    check("budget 0", r.answer == 1 && r.visited == 0 && r.place == 0 && r.DADDR == s.DADDR);
+    uint64_t place = 0;
+    while (place < 35) {
+        r = draw(memory_of(other, 40), PIXBLT_L_L, &s, place, 0, 4);
+        check("slice", r.place - place == r.visited && r.answer == (r.place == 35 ? 0 : 1));
+        place = r.place;
+    }
+    check("slices", memcmp(big, other, 80) == 0 && r.DADDR == whole.DADDR
+          && r.SADDR == whole.SADDR);
+    r = draw(memory_of(other, 40), PIXBLT_L_L, &s, 35, 0, 0);
+    check("place at the end", r.answer == 0 && r.visited == 0 && r.DADDR == whole.DADDR
+          && memcmp(big, other, 80) == 0);
+    r = draw(memory_of(other, 40), PIXBLT_L_L, &s, ((uint64_t)1 << 32) + 1, 0, 0);
+    check("place of 64 bits", r.answer == 15 && r.place == ((uint64_t)1 << 32) + 1);
+}
+
+/* ---- PIXT and DRAV ---- */
+
+/* "DRAV from 0000FFFFh with step 1, W=3, window from 0,0: not drawn, V=1, new point 0." */
+static void test_drav(void)
+{
+    struct settings s = plain_settings(4);
+    uint16_t word[4] = { 0, 0, 0, 0 };
+    struct memory m = memory_of(word, 4);
+    s.COLOR1 = 0x4321;
+    s.WEND = 0x00050005;
+    s.CONTROL = control(0, 3, 0);
+    struct drav_answer r = drav(m, &s, 1, 0x0000FFFF, 0);
+    check("DRAV figure", r.answer == 0 && r.visited == 0 && r.v == 1 && r.request == 0
+          && r.point == 0 && word[0] == 0);
+    r = drav(m, &s, 0xFFFF0002, 0x00000001, 1);
+    check("DRAV draws", r.answer == 0 && r.visited == 1 && r.v == 0 && r.point == 0xFFFF0003
+          && word[0] == 0x0020);
+    s.CONTROL = 0;
+    r = drav(m, &s, 1, 0x0000FFFF, 1);
+    check("DRAV refused", r.answer == 16 && r.point == 0x0000FFFF && r.v == 1);
+    s.CONTROL = control(0, 1, 0);
+    r = drav(m, &s, 1, 0x00000002, 0);
+    check("DRAV, W=1", r.answer == 0 && r.v == 1 && r.request == 1 && r.visited == 0
+          && r.point == 3 && word[0] == 0x0020);
+    s.CONTROL = control(0, 2, 0);
+    r = drav(m, &s, 1, 0x00000006, 0);
+    check("DRAV, W=2", r.answer == 0 && r.v == 1 && r.request == 1 && r.visited == 0
+          && r.point == 7);
+    s.DPTCH = 48;
+    check("DRAV, 13", drav(m, &s, 1, 0, 0).answer == 13);
+}
+
+/* PIXT in its four forms. */
+static void test_pixt(void)
+{
+    struct settings s = plain_settings(4);
+    uint16_t word[8] = { 0x4321, 0, 0, 0, 0x8765, 0, 0, 0 };
+    struct memory m = memory_of(word, 8);
+    s.PMASK = 0x1100;
+    s.CONTROL = control(0, 3, 0);
+    s.WEND = 0x00050005;
+    struct pixt_answer r = pixt_from_linear(m, &s, 8, 1);
+    check("PIXT from linear", r.answer == 0 && r.value == 2 && r.visited == 1 && r.v == 1);
+    s.WSTART = 0x00100010;
+    r = pixt_from_xy(m, &s, 0x00010002, 1);
+    check("PIXT from XY ignores the window", r.answer == 0 && r.value == 6 && r.v == 1);
+    r = pixt_to_linear(m, &s, 0xFFFFFFFFu, 8, 1);
+    check("PIXT to linear", r.answer == 0 && r.visited == 1 && r.v == 1 && word[0] == 0x4F21);
+    check("PIXT to XY, 14", pixt_to_xy(m, &s, 0, 0, 1).answer == 14);
+    s.WSTART = 0;
+    r = pixt_to_xy(m, &s, 0xFFFFFFF9u, 0x00010001, 1);
+    check("PIXT to XY", r.answer == 0 && r.visited == 1 && r.v == 0 && word[4] == 0x8795);
+    r = pixt_to_xy(m, &s, 1, 0x00060001, 0);
+    check("PIXT to XY outside", r.answer == 0 && r.visited == 0 && r.v == 1 && r.request == 0);
+    s.CONTROL = control(0, 1, 0);
+    r = pixt_to_xy(m, &s, 1, 0x00000000, 0);
+    check("PIXT to XY, W=1", r.answer == 0 && r.visited == 0 && r.v == 1 && r.request == 1
+          && word[0] == 0x4F21);
+    check("PIXT, 16", pixt_from_linear(m, &s, 2, 0).answer == 16
+          && pixt_to_linear(m, &s, 0, 2, 0).answer == 16
+          && pixt_from_xy(m, &s, 0xFFFF0000, 0).answer == 16);
+    check("PIXT, 17", pixt_from_linear(m, &s, 128, 0).answer == 17
+          && pixt_from_xy(m, &s, 0x00020000, 0).answer == 17
+          && pixt_from_linear(m, &s, 128, 0).value == 0);
+    s.DPTCH = 3;
+    check("PIXT, pitch", pixt_from_linear(m, &s, 0, 0).answer == 0
+          && pixt_from_xy(m, &s, 0, 0).answer == 13 && pixt_to_xy(m, &s, 0, 0, 0).answer == 13);
+}
+
+/* ---- Plans ---- */
+
+/* Runs a plan and compares its listing with the one that is expected. */
+static bool listing_is(const char *text, size_t length, const char *expected)
+{
+    char listing[4096];
+    FILE *out = tmpfile();
+    if (out == NULL)
+        return false;
+    plan_listing((const unsigned char *)text, length, out);
+    rewind(out);
+    size_t got = fread(listing, 1, sizeof listing, out);
+    fclose(out);
+    return got == strlen(expected) && memcmp(listing, expected, got) == 0;
+}
+
+/* Whether a plan is refused with this number at this line. */
+static bool refused_at(const char *text, int number, int line)
+{
+    char expected[64];
+    snprintf(expected, sizeof expected, "refused\t%d\t%d\n", number, line);
+    return listing_is(text, strlen(text), expected);
+}
+
+/* The scope's example. */
+static void test_example_listing(void)
+{
+    const char *text = "memory\t4\ndraw\tFILL L\naxis\tPSIZE\t4\t8\n"
+                       "axis\tCOLOR1\t255\t65535\naxis\tDYDX\t65538\n";
+    check("example listing", listing_is(text, strlen(text),
+          "point\tanswer\tvisited\tV\tchanged\n0\t0\t2\t0\t8\n1\t0\t2\t0\t8\n2\t0\t2\t0\t8\n"
+          "3\t0\t2\t0\t16\n"));
+    text = "# a comment\n\nmemory\t1\n#\ndraw\tPIXBLT B,XY\n";
+    check("refused point", listing_is(text, strlen(text),
+          "point\tanswer\tvisited\tV\tchanged\n0\t13\t0\t0\t0\n"));
+}
+
+/* "Axes of 2 and 3 values: point 4 has indices 1 and 1; point 6 gives 24." */
+static void test_points(void)
+{
+    const char *text = "memory\t4\ndraw\tFILL L\naxis\tPSIZE\t4\t8\naxis\tSEED\t5\t6\t7\n";
+    static struct plan p;
+    plan_read(&p, (const unsigned char *)text, strlen(text));
+    check("count", p.answer == 0 && plan_count(&p) == 6);
+    struct point_answer r = plan_point(&p, 4);
+    check("point 4", r.answer == 0 && r.index[0] == 1 && r.index[1] == 1 && r.seed == 6
+          && r.settings.PSIZE == 8);
+    check("point 6", plan_point(&p, 6).answer == 24);
+    check("point of 64 bits", plan_point(&p, (uint64_t)1 << 32).answer == 24);
+}
+
+/* Wrong forms (20). */
+static void test_plan_forms(void)
+{
+    check("empty text", refused_at("", 20, 1));
+    check("only comments", refused_at("#\n\n#\n", 20, 4));
+    check("no draw line", refused_at("memory\t4\n", 20, 2));
+    check("no last byte 10", refused_at("memory\t4\ndraw\tFILL L", 20, 2));
+    check("comment without byte 10", refused_at("memory\t4\ndraw\tFILL L\n#", 20, 3));
+    check("order", refused_at("draw\tFILL L\nmemory\t4\n", 20, 1));
+    check("memory 0", refused_at("memory\t0\n", 20, 1));
+    check("memory 32769", refused_at("memory\t32769\n", 20, 1));
+    check("memory 32768", refused_at("memory\t32768\n", 20, 2));
+    check("leading zero", refused_at("memory\t04\n", 20, 1));
+    check("extra field", refused_at("memory\t4\t\n", 20, 1));
+    check("two tabs", refused_at("memory\t\t4\n", 20, 1));
+    check("byte 13", refused_at("memory\t4\r\n", 20, 1));
+    check("a space", refused_at(" \n", 20, 1));
+    check("draw name", refused_at("memory\t4\ndraw\tLINE\n", 20, 2));
+    check("second draw", refused_at("memory\t4\ndraw\tFILL L\ndraw\tFILL L\n", 20, 3));
+    check("no name", refused_at("memory\t4\ndraw\tFILL L\naxis\n", 20, 3));
+    check("no value", refused_at("memory\t4\ndraw\tFILL L\naxis\tPSIZE\n", 20, 3));
+    check("empty value", refused_at("memory\t4\ndraw\tFILL L\naxis\tPSIZE\t\n", 20, 3));
+    check("empty name", refused_at("memory\t4\ndraw\tFILL L\naxis\t\t4\n", 20, 3));
+    check("2^64", refused_at("memory\t4\ndraw\tFILL L\naxis\tSEED\t18446744073709551616\n", 20,
+                             3));
+    check("20 before 21", refused_at("memory\t4\ndraw\tFILL L\naxis\tX\t4\t-1\n", 20, 3));
+}
+
+/* Names and values (21, 22). */
+static void test_plan_names(void)
+{
+    check("unknown name", refused_at("memory\t4\ndraw\tFILL L\naxis\tPsize\t4\n", 21, 3));
+    check("name came before",
+          refused_at("memory\t4\ndraw\tFILL L\naxis\tPSIZE\t4\n\naxis\tPSIZE\t4\n", 21, 5));
+    check("value too large", refused_at("memory\t4\ndraw\tFILL L\naxis\tPSIZE\t65536\n", 22, 3));
+    check("value too large, 32",
+          refused_at("memory\t4\ndraw\tFILL L\naxis\tDADDR\t4294967296\n", 22, 3));
+    check("value twice", refused_at("memory\t4\ndraw\tFILL L\naxis\tDADDR\t1\t0\t1\n", 22, 3));
+    const char *text = "memory\t4\ndraw\tFILL L\naxis\tSEED\t18446744073709551615\t0\n";
+    check("largest seed", listing_is(text, strlen(text),
+          "point\tanswer\tvisited\tV\tchanged\n0\t0\t0\t0\t0\n1\t0\t0\t0\t0\n"));
+}
+
+/* A plan with this many values on its SEED axis, the last one given. */
+static bool many_values(int values, const char *last, int number)
+{
+    char text[2048];
+    int at = snprintf(text, sizeof text, "memory\t4\ndraw\tFILL L\naxis\tSEED");
+    for (int i = 1; i < values; i++)
+        at = at + snprintf(text + at, sizeof text - (size_t)at, "\t%d", i);
+    snprintf(text + at, sizeof text - (size_t)at, "\t%s\n", last);
+    if (number == 0) {
+        static struct plan p;
+        plan_read(&p, (const unsigned char *)text, strlen(text));
+        return p.answer == 0 && plan_count(&p) == (uint64_t)values;
+    }
+    return refused_at(text, number, 3);
+}
+
+/* "more than 8 axes, or more than 64 values on one" (23), and lower numbers on the same line. */
+static void test_plan_many(void)
+{
+    const char *eight = "memory\t4\ndraw\tFILL L\naxis\tSADDR\t0\naxis\tSPTCH\t0\naxis\tDADDR\t0\n"
+                        "axis\tDPTCH\t0\naxis\tOFFSET\t0\naxis\tWSTART\t0\naxis\tWEND\t0\n"
+                        "axis\tDYDX\t0\n";
+    char text[512];
+    check("eight axes", listing_is(eight, strlen(eight),
+          "point\tanswer\tvisited\tV\tchanged\n0\t0\t0\t0\t0\n"));
+    snprintf(text, sizeof text, "%saxis\tCOLOR0\t0\n", eight);
+    check("nine axes", refused_at(text, 23, 11));
+    snprintf(text, sizeof text, "%saxis\tDYDX\t0\n", eight);
+    check("nine axes, name before", refused_at(text, 21, 11));
+    check("64 values", many_values(64, "999", 0));
+    check("65 values", many_values(65, "999", 23));
+    check("65 values, one twice", many_values(65, "7", 22));
+    check("65 values, bad number", many_values(65, "07", 20));
+}
+
+/* "text is at most 65,536 bytes, else 20 on line 1" */
+static void test_plan_length(void)
+{
+    static char text[MOST_TEXT + 1];
+    const char *start = "memory\t4\ndraw\tFILL L\n#";
+    memset(text, 'x', sizeof text);
+    memcpy(text, start, strlen(start));
+    text[MOST_TEXT - 1] = '\n';
+    text[MOST_TEXT] = '\n';
+    check("longest text", listing_is(text, MOST_TEXT,
+          "point\tanswer\tvisited\tV\tchanged\n0\t0\t0\t0\t0\n"));
+    check("text too long", listing_is(text, MOST_TEXT + 1, "refused\t20\t1\n"));
+}
+
+int main(void)
+{
+    test_field_figure();
+    test_field_refusals();
+    test_field_cases();
+    test_cache_figure();
+    test_image_figure();
+    test_changed();
+    test_pixel_figures();
+    test_pixel_logic();
+    test_mask_figure();
+    test_linear_figure();
+    test_window_figure();
+    test_window_1_and_2();
+    test_no_wrap_in_xy();
+    test_refusals();
+    test_serial_rule();
+    test_binary_source();
+    test_clipped_source();
+    test_wrapping_pitch();
+    test_slices();
+    test_drav();
+    test_pixt();
+    test_example_listing();
+    test_points();
+    test_plan_forms();
+    test_plan_names();
+    test_plan_many();
+    test_plan_length();
+    printf("%d passed, %d failed\n", passed, failed);
+    return failed == 0 ? 0 : 1;
+}
