@@ -1,3 +1,4 @@
 pub mod WindowLaws
 pub mod RegisterLaws
 pub mod CallLaws
+pub mod RoundLaws
