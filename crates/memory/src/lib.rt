@@ -13,6 +13,17 @@ pub fn no_memory(words: usize) -> bool
     (words == 0) | (1048576 < words)
 }
 
+// A word of the memory; a word past the end is 0.
+pub fn word_at(memory: &[u16], at: u64) -> u16
+    ensures { λ r. ⌜ r ≡ getD (now (memory .entry)) at 0 ⌝ }
+{
+    if at < memory.len() as u64 {
+        memory[at as usize]
+    } else {
+        0
+    }
+}
+
 // The bit at an address; a bit past the end is 0.
 pub fn bit_at(memory: &[u16], address: u64) -> u16
     ensures { λ r. ⌜ r ≡ bitAt (now (memory .entry)) address ⌝ }
@@ -40,17 +51,6 @@ pub fn changed(before: &[u16], after: &[u16]) -> BitCount
     }
     let bits = changed_bits(before, after);
     BitCount { answer: 0, bits }
-}
-
-// A word of the memory; a word past the end is 0.
-fn word_at(memory: &[u16], at: u64) -> u16
-    ensures { λ r. ⌜ r ≡ getD (now (memory .entry)) at 0 ⌝ }
-{
-    if at < memory.len() as u64 {
-        memory[at as usize]
-    } else {
-        0
-    }
 }
 
 // The greater of two numbers.

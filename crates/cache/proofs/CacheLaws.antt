@@ -1,0 +1,135 @@
+-- Laws of `specs/Cache.antt`. No contract cites this file. Assumes nothing.
+use mathlib.Core.Path.{_≡_, refl, _∙_}
+use mathlib.Core.Bool.{Bool, true, false, cond, _||_, and-comm, and-assoc, and-false, and-eq-true-iff}
+use mathlib.Core.List.{List, [], _∷_, _++_}
+use Prim.Native.Nat.{ℕ, _-_, _^_, _≤_, _<_}
+use native.Mathlib.Omega.{arith}
+use borrow.Author.Tests.{lt-ltb, le-ltb, leb-false}
+use lib.Dec.{eqb, leb, ltb}
+use lib.ListN.{length, getD}
+use lib.Seq.{set-getD}
+use Rattle.lists.specs.Search.{any, first, anyPair}
+use Rattle.lists.proofs.TestLaws.{or-eq-false, eqb-comm}
+use Rattle.lists.proofs.SearchLaws.{any-first, getD-first, any-getD, any-none, any-set, any-set-same, anyPair-set, anyPair-set-same, any-snoc, anyPair-snoc}
+use Rattle.cache.specs.declared.Segment.{Segment}
+use Rattle.cache.specs.declared.Cache.{Cache}
+use Rattle.cache.specs.declared.Kind.the-variants.{Hit, SubsegmentMiss, SegmentMiss, Disabled, Refused}
+use Rattle.cache.specs.Cache.{badOrder, tooHigh, holds, clash, refused, startOf, subsegmentOf, matches, latest, store, empty, withFlag, noSegment, segmentAt, hit, subsegmentMiss, segmentMiss, matched, lookup, disabled, fetched}
+
+-- what holds of a state that is not refused
+pub record Accepted (c : Cache) : Type 0 where
+  pub named : any (λ k. leb 4 k) (c .order) ≡ false
+  pub once : anyPair eqb (c .order) ≡ false
+  pub low : any tooHigh (c .segments) ≡ false
+  pub apart : anyPair clash (c .segments) ≡ false
+
+pub accepted : (c : Cache) → refused c ≡ false → Accepted c
+unfolding refused
+accepted c e =
+    let p = or-eq-false (badOrder (c .order) || any tooHigh (c .segments)) _ e in
+    let q = or-eq-false (badOrder (c .order)) _ (p .0) in
+    let s = or-eq-false (any (λ k. leb 4 k) (c .order)) _ (q .0) in
+    record { named = s .0; once = s .1; low = q .1; apart = p .1 }
+
+pub not-refused : {c : Cache} → Accepted c → refused c ≡ false
+unfolding refused
+not-refused a = rw (a .named, a .once, a .low) (a .apart)
+
+-- each place of its order names a segment
+pub order-lt : (c : Cache) (i : ℕ) → refused c ≡ false → getD (c .order) i 0 < 4
+order-lt c i e = leb-false 4 _ (any-getD (λ k. leb 4 k) 0 (c .order) i refl (accepted c e .named))
+
+-- What a fetch hands back, by the tests of the state and of CD
+
+module _ (c : Cache) (address control : ℕ) where
+  pub fetched-refused : refused c ≡ true → fetched c address control ≡ record { kind = Refused; cache = c }
+  unfolding fetched
+  fetched-refused e = rw e
+
+  pub fetched-disabled : refused c ≡ false → disabled control ≡ true → fetched c address control ≡ record { kind = Disabled; cache = c }
+  unfolding fetched
+  fetched-disabled e d = rw (e, d)
+
+  pub fetched-lookup : refused c ≡ false → disabled control ≡ false → fetched c address control ≡ lookup c (startOf address) (subsegmentOf address)
+  unfolding fetched
+  fetched-lookup e d = rw (e, d)
+
+-- What a look-up hands back, by the place of the first match
+
+pub first-match : (start i : ℕ) (l : List Segment) → length l ≡ 4 → i ≡ first (matches start) l
+    → (i ≡ first (matches start) l) × (any (matches start) l ≡ ltb i 4)
+first-match start i l h e = (e, rw (e, ← h) (any-first (matches start) l))
+
+module _ (c : Cache) (start sub i : ℕ) (e : i ≡ first (matches start) (c .segments)) (f : any (matches start) (c .segments) ≡ ltb i 4) (r : Cache) where
+  pub lookup-hit : i < 4 → getD (segmentAt c i .present) sub false ≡ true → r ≡ store c i (segmentAt c i)
+      → record { kind = Hit; cache = r } ≡ lookup c start sub
+  unfolding lookup
+  lookup-hit l t q = rw (q, f, lt-ltb i 4 l, ← e, t, set-getD (c .segments) i noSegment)
+
+  pub lookup-part : i < 4 → getD (segmentAt c i .present) sub false ≡ false → r ≡ store c i (withFlag sub (segmentAt c i))
+      → record { kind = SubsegmentMiss; cache = r } ≡ lookup c start sub
+  unfolding lookup
+  lookup-part l t q = rw (q, f, lt-ltb i 4 l, ← e, t)
+
+  pub lookup-miss : 4 ≤ i → r ≡ store c (getD (c .order) 0 0) (withFlag sub (empty start))
+      → record { kind = SegmentMiss; cache = r } ≡ lookup c start sub
+  unfolding lookup
+  lookup-miss l q = rw (q, f, le-ltb i 4 l)
+
+-- A look-up keeps an accepted state accepted
+
+any-latest : (p : ℕ → Bool) (k : ℕ) (l : List ℕ) → any p (latest k l) ≡ any p l
+unfolding any latest
+any-latest p k [] = refl
+any-latest p k (x ∷ l) = go (eqb x k) (any-latest p k l)
+  where
+    go : (b : Bool) → any p (latest k l) ≡ any p l → any p (cond b (l ++ (x ∷ [])) (x ∷ latest k l)) ≡ any p (x ∷ l)
+    go true e = any-snoc p x l
+    go false e = rw e
+
+anyPair-latest : (k : ℕ) (l : List ℕ) → anyPair eqb (latest k l) ≡ anyPair eqb l
+unfolding any anyPair latest
+anyPair-latest k [] = refl
+anyPair-latest k (x ∷ l) = go (eqb x k) (anyPair-latest k l)
+  where
+    go : (b : Bool) → anyPair eqb (latest k l) ≡ anyPair eqb l → anyPair eqb (cond b (l ++ (x ∷ [])) (x ∷ latest k l)) ≡ anyPair eqb (x ∷ l)
+    go true e = anyPair-snoc eqb eqb-comm x l
+    go false e = rw (any-latest (eqb x) k l, e)
+
+clash-comm : (s t : Segment) → clash s t ≡ clash t s
+clash-comm s t = rw (and-comm (holds s) (holds t), eqb-comm (s .start) (t .start))
+
+module _ (c : Cache) (a : Accepted c) where
+  latest-accepted : (i : ℕ) (l : List Segment) → any tooHigh l ≡ false → anyPair clash l ≡ false
+      → Accepted (record { segments = l; order = latest i (c .order) })
+  latest-accepted i l h e =
+      record { named = any-latest _ i (c .order) ∙ a .named; once = anyPair-latest i (c .order) ∙ a .once; low = h; apart = e }
+
+  withFlag-accepted : (i sub : ℕ) → holds (segmentAt c i) ≡ true → Accepted (store c i (withFlag sub (segmentAt c i)))
+  withFlag-accepted i sub h =
+      let more : holds (withFlag sub (segmentAt c i)) ≡ true = any-set (λ f. f) true (segmentAt c i .present) sub true refl h in
+      latest-accepted i _ (any-set-same tooHigh _ noSegment (c .segments) i refl ∙ a .low)
+      (anyPair-set-same clash clash-comm _ noSegment (c .segments) i (λ t. rw (more, h)) ∙ a .apart)
+
+  matched-accepted : (i sub : ℕ) → holds (segmentAt c i) ≡ true → Accepted (matched c i sub .cache)
+  matched-accepted i sub h = go (getD (segmentAt c i .present) sub false)
+    where
+      go : (b : Bool) → Accepted ((cond b (hit c i) (subsegmentMiss c i sub)) .cache)
+      go true = latest-accepted i (c .segments) (a .low) (a .apart)
+      go false = withFlag-accepted i sub h
+
+  new-accepted : (i : ℕ) (s : Segment) → s .start < 2 ^ 23 → any (matches (s .start)) (c .segments) ≡ false → Accepted (store c i s)
+  new-accepted i s l e =
+      latest-accepted i _ (any-set tooHigh s (c .segments) i false (le-ltb (2 ^ 23 - 1) (s .start) (omega arith)) (a .low))
+      (anyPair-set clash clash-comm s (c .segments) i
+      (any-none (matches (s .start)) (clash s) (c .segments) (λ t z. rw (and-assoc (holds s) (holds t), z) (and-false (holds s))) e)
+      (a .apart))
+
+  pub lookup-accepted : (start sub : ℕ) → start < 2 ^ 23 → Accepted (lookup c start sub .cache)
+  unfolding lookup
+  lookup-accepted start sub l = go (any (matches start) (c .segments)) refl
+    where
+      go : (b : Bool) → any (matches start) (c .segments) ≡ b
+          → Accepted ((cond b (matched c (first (matches start) (c .segments)) sub) (segmentMiss c start sub)) .cache)
+      go true e = matched-accepted _ sub (and-eq-true-iff _ _ .0 (getD-first (matches start) noSegment (c .segments) e) .0)
+      go false e = new-accepted _ _ l e

@@ -1,0 +1,3 @@
+pub mod CacheLaws
+pub mod Statements
+pub mod Figure

@@ -1,0 +1,120 @@
+-- The instruction cache (scope, "Cache"; 004 section 5.4): what a fetch answers, and the state that it hands back.
+-- A state of the type has four segments of eight flags each, and an order of four. Assumes nothing.
+use mathlib.Core.Bool.{Bool, true, false, cond, _&&_, _||_}
+use mathlib.Core.List.{List, [], _∷_, _++_}
+use Prim.Native.Nat.{ℕ, _-_, _/_, _%_, _^_}
+use lib.Dec.{eqb, ltb, leb}
+use lib.ListN.{getD, set, replicate}
+use Rattle.lists.specs.Search.{any, first, anyPair}
+use Rattle.cache.specs.declared.Segment.{Segment}
+use Rattle.cache.specs.declared.Cache.{Cache}
+use Rattle.cache.specs.declared.Kind.{Kind}
+use Rattle.cache.specs.declared.Kind.the-variants.{Hit, SubsegmentMiss, SegmentMiss, Disabled, Refused}
+use Rattle.cache.specs.declared.Fetched.{Fetched}
+
+-- Refusal 19
+
+-- the order isn't a permutation of the four segments: a place names none of them, or two places name the same
+abbrev pub badOrder : List ℕ → Bool
+badOrder order = any (λ k. leb 4 k) order || anyPair eqb order
+
+-- a start address is above 2^23 - 1
+abbrev pub tooHigh : Segment → Bool
+tooHigh s = ltb (2 ^ 23 - 1) (s .start)
+
+-- a segment holds something: one of its flags is set
+abbrev pub holds : Segment → Bool
+holds s = any (λ flag. flag) (s .present)
+
+-- two segments that hold something have the same start address
+abbrev pub clash : Segment → Segment → Bool
+clash s t = holds s && holds t && eqb (s .start) (t .start)
+
+unfoldable pub refused : Cache → Bool
+refused c = badOrder (c .order) || any tooHigh (c .segments) || anyPair clash (c .segments)
+
+-- A fetch
+
+-- bits 9-31 of its bit address are a start address
+abbrev pub startOf : ℕ → ℕ
+startOf address = address / 2 ^ 9
+
+-- bits 6-8 choose the subsegment of 4 words
+abbrev pub subsegmentOf : ℕ → ℕ
+subsegmentOf address = address / 2 ^ 6 % 2 ^ 3
+
+-- a segment matches the start address that it has; one without flags matches nothing
+abbrev pub matches : ℕ → Segment → Bool
+matches start s = holds s && eqb start (s .start)
+
+-- segment k becomes the latest used: it moves to the end of the order
+unfoldable pub latest : ℕ → List ℕ → List ℕ
+latest k [] = []
+latest k (x ∷ order) = cond (eqb x k) (order ++ (x ∷ [])) (x ∷ latest k order)
+
+-- segment i becomes s and the latest used
+abbrev pub store : Cache → ℕ → Segment → Cache
+store c i s = record { segments = set (c .segments) i s; order = latest i (c .order) }
+
+-- a segment without flags
+abbrev pub empty : ℕ → Segment
+empty start = record { start = start; present = replicate 8 false }
+
+-- the segment with a flag set
+abbrev pub withFlag : ℕ → Segment → Segment
+withFlag sub s = record { start = s .start; present = set (s .present) sub true }
+
+-- segment i; what stands for one past the end is never looked at
+abbrev pub noSegment : Segment
+noSegment = record { start = 0; present = [] }
+
+abbrev pub segmentAt : Cache → ℕ → Segment
+segmentAt c i = getD (c .segments) i noSegment
+
+-- hit: the segment becomes the latest used
+abbrev pub hit : Cache → ℕ → Fetched
+hit c i = record { kind = Hit; cache = record { segments = c .segments; order = latest i (c .order) } }
+
+-- subsegment miss: also its flag is set
+abbrev pub subsegmentMiss : Cache → ℕ → ℕ → Fetched
+subsegmentMiss c i sub = record { kind = SubsegmentMiss; cache = store c i (withFlag sub (segmentAt c i)) }
+
+-- segment miss: the least recently used one gets the new address, loses all flags, gains one, and becomes latest
+abbrev pub segmentMiss : Cache → ℕ → ℕ → Fetched
+segmentMiss c start sub = record { kind = SegmentMiss; cache = store c (getD (c .order) 0 0) (withFlag sub (empty start)) }
+
+-- a fetch that segment i matches: a hit if it has the flag
+abbrev pub matched : Cache → ℕ → ℕ → Fetched
+matched c i sub = cond (getD (segmentAt c i .present) sub false) (hit c i) (subsegmentMiss c i sub)
+
+-- a fetch of a subsegment of a start address
+unfoldable pub lookup : Cache → ℕ → ℕ → Fetched
+lookup c start sub =
+    cond (any (matches start) (c .segments))
+    (matched c (first (matches start) (c .segments)) sub)
+    (segmentMiss c start sub)
+
+-- CD is CONTROL bit 15
+abbrev pub disabled : ℕ → Bool
+disabled control = eqb (control / 2 ^ 15 % 2) 1
+
+-- with CD 1 every fetch reports disabled and the state stays; a refused state is refused also with CD 1, and stays
+unfoldable pub fetched : Cache → ℕ → ℕ → Fetched
+fetched c address control =
+    cond (refused c)
+    (record { kind = Refused; cache = c })
+    (cond (disabled control)
+    (record { kind = Disabled; cache = c })
+    (lookup c (startOf address) (subsegmentOf address)))
+
+-- Fresh: no flags, addresses 0, segment 0 least recent and 3 latest
+abbrev pub freshCache : Cache
+freshCache = record { segments = replicate 4 (empty 0); order = 0 ∷ 1 ∷ 2 ∷ 3 ∷ [] }
+
+-- The answer's number: 19 for a refused state, 0 (done) for the others
+abbrev pub answerOf : Kind → ℕ
+answerOf Hit = 0
+answerOf SubsegmentMiss = 0
+answerOf SegmentMiss = 0
+answerOf Disabled = 0
+answerOf Refused = 19

@@ -1,0 +1,1 @@
+// Searches in lists: definitions and laws only.
