@@ -1,3 +1,2 @@
 pub mod CacheLaws
-pub mod Statements
-pub mod Figure
+pub mod FetchLaws

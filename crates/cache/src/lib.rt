@@ -189,16 +189,16 @@ fn any_clash(segments: [Segment; 4]) -> bool
     let b = segments[1];
     let c = segments[2];
     let d = segments[3];
-    let p = holds_some(a);
-    let q = holds_some(b);
-    let r = holds_some(c);
-    let s = holds_some(d);
-    p & q & (a.start == b.start)
-        | p & r & (a.start == c.start)
-        | p & s & (a.start == d.start)
-        | q & r & (b.start == c.start)
-        | q & s & (b.start == d.start)
-        | r & s & (c.start == d.start)
+    clashes(a, b) | clashes(a, c) | clashes(a, d) | clashes(b, c) | clashes(b, d) | clashes(c, d)
+}
+
+// Do both segments hold something, and have the same start address?
+fn clashes(s: Segment, t: Segment) -> bool
+    ensures { λ r. ⌜ r ≡ clash s t ⌝ }
+{
+    let p = holds_some(s);
+    let q = holds_some(t);
+    p & q & (s.start == t.start)
 }
 
 // Is one of the segment's flags set?

@@ -13,8 +13,3 @@ length-draws (suc k) x = omega (arith, length-draws k (stepped x))
 -- n draws are enough for n words
 pub length-image : (n seed : ℕ) → length (image n seed) ≡ n
 length-image n seed = omega (arith, length-take n (draws n seed), length-draws n seed)
-
--- scope, "Figures at the edge": seed 1
-pub figure : image 4 1 ≡ 0x2041 ∷ 0x4082 ∷ 0 ∷ 0 ∷ []
-unfolding stepped
-figure = refl

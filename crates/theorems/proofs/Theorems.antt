@@ -7,7 +7,11 @@ use Rattle.memory.proofs.ChangedLaws as changed
 use Rattle.field.proofs.RoundLaws as field
 use Rattle.timing.proofs.CaseLaws as timing
 use Rattle.image.proofs.SeedLaws as image
-use Rattle.theorems.specs.Theorems.{BitsDecide, ChangedDecides, ReadBack, WriteFrame, WriteRefused, WriteBack, PastEnd, OneCase, SeedsDiffer}
+use Rattle.cache.proofs.FetchLaws as cache
+use Rattle.pixel.proofs.Footprint as pixel
+use Rattle.geometry.proofs.WindowLaws as window
+use Rattle.geometry.proofs.WalkLaws as walk
+use Rattle.theorems.specs.Theorems.{BitsDecide, ChangedDecides, ReadBack, WriteFrame, WriteRefused, WriteBack, PastEnd, OneCase, FetchAccepted, RefusedExactly, PixelFrame, PixelDepends, KeptIsSeen, SeenIsKept, WalkInside, SeedsDiffer}
 
 pub bits-decide : BitsDecide
 bits-decide n m m′ g g′ e = memory.memory-ext g g′ e
@@ -33,6 +37,28 @@ past-end = field.past-end
 
 pub one-case : OneCase
 one-case = timing.one-case
+
+pub fetch-accepted : FetchAccepted
+fetch-accepted = (cache.fresh-accepted, cache.fetch-accepted)
+
+pub refused-exactly : RefusedExactly
+refused-exactly = cache.refused-exactly
+
+pub pixel-frame : PixelFrame
+pixel-frame pp t p pmask a n m s b h g l = pixel.plotted-frame pp t p pmask a h g l s b
+
+pub pixel-depends : PixelDepends
+pixel-depends pp t p pmask a n m m′ s s′ h g g′ l e f = pixel.plotted-depend pp t p pmask a h g g′ l s s′ e f
+
+pub kept-is-seen : KeptIsSeen
+kept-is-seen = window.seen-of-kept
+
+pub seen-is-kept : SeenIsKept
+seen-is-kept = window.kept-pixel
+
+pub walk-inside : WalkInside
+walk-inside words start cols rows pitch step e =
+    (walk.lt-of-leavesMemory words start cols rows pitch step e, walk.leavesMemory-of-lt words start cols rows pitch step)
 
 pub seeds-differ : SeedsDiffer
 seeds-differ = image.image-inj

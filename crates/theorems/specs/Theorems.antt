@@ -4,14 +4,24 @@
 use mathlib.Core.Path.{_≡_}
 use mathlib.Core.Bool.{Bool, true, false}
 use mathlib.Core.List.{List}
-use mathlib.Core.Logic.{_⊎_}
-use Prim.Native.Nat.{ℕ, _+_, _*_, _%_, _^_, _<_, _≤_}
+use mathlib.Core.Logic.{_⊎_, _↔_}
+use Prim.Native.Nat.{ℕ, _+_, _-_, _*_, _%_, _^_, _<_, _≤_}
 use lib.ListN.{length}
-use Rattle.memory.specs.Bits.{Memory, bitAt}
+use Rattle.memory.specs.Bits.{Memory, noMemory, bitOf, bitAt}
 use Rattle.memory.specs.Changed.{changedBits}
 use Rattle.field.specs.Field.{refusal, fieldRead, fieldWritten}
 use Rattle.timing.specs.Cycles.{isCase, cases, caseOf, holding}
 use Rattle.image.specs.Image.{image}
+use Rattle.cache.specs.Cache.{refused, fetched, freshCache}
+use Rattle.cache.specs.declared.Cache.{Cache}
+use Rattle.cache.specs.declared.Kind.the-variants.{Refused}
+use Rattle.pixel.specs.Pixel.{plotted}
+use Rattle.pixel.specs.Footprint.{Touched}
+use Rattle.geometry.specs.Window.{clipped}
+use Rattle.geometry.specs.Kept.{Pixel, Seen, kept}
+use Rattle.geometry.specs.Walk.{addressOf, leavesMemory}
+use Rattle.geometry.specs.declared.Rectangle.{Rectangle}
+use Rattle.geometry.specs.declared.Window.{Window}
 
 -- ---- memory
 
@@ -52,6 +62,55 @@ PastEnd = (words a n : ℕ) → 0 < words → words ≤ 1048576 → 0 < n → n 
 -- Every alignment and size is of exactly one of the cases A to G, and it is the one whose cycles and states are given.
 abbrev pub OneCase : Type 0
 OneCase = (s n : ℕ) → s < 16 → 0 < n → n ≤ 32 → (holding cases s n ≡ 1) × (isCase (caseOf s n) s n ≡ true)
+
+-- ---- the instruction cache
+
+-- A fresh cache is accepted, and a fetch at a 32-bit address, under any CONTROL, hands back an accepted state if it was given one.
+-- So no fetch from a fresh cache is ever refused.
+abbrev pub FetchAccepted : Type 0
+FetchAccepted =
+    (refused freshCache ≡ false)
+    × ((c : Cache) (address control : ℕ) → address < 2 ^ 32 → refused c ≡ false → refused (fetched c address control .cache) ≡ false)
+
+-- A fetch answers Refused exactly when the state that it was given is refused, also with CD 1.
+abbrev pub RefusedExactly : Type 0
+RefusedExactly = (c : Cache) (address control : ℕ) → (fetched c address control .kind ≡ Refused) ↔ (refused c ≡ true)
+
+-- ---- one pixel, at every operation, mask and size P that fits its word at its place
+
+-- Drawing a pixel changes no bit but the unmasked ones of that pixel.
+abbrev pub PixelFrame : Type 0
+PixelFrame =
+    (pp : ℕ) (t : Bool) (p pmask a n : ℕ) (m : List ℕ) (s b : ℕ) → a % 16 + p ≤ 16 → Memory n m → a < 16 * n
+    → (bitAt (plotted pp t (2 ^ p - 1) pmask a s m) b ≡ bitAt m b) ⊎ Touched p pmask a b
+
+-- What it writes there depends on nothing but the unmasked bits of the source and of the old pixel.
+abbrev pub PixelDepends : Type 0
+PixelDepends =
+    (pp : ℕ) (t : Bool) (p pmask a n : ℕ) (m m′ : List ℕ) (s s′ : ℕ) → a % 16 + p ≤ 16 → Memory n m → Memory n m′ → a < 16 * n
+    → ((j : ℕ) → j < p → bitOf pmask ((a + j) % 16) ≡ 0 → bitOf s j ≡ bitOf s′ j)
+    → ((b : ℕ) → Touched p pmask a b → bitAt m b ≡ bitAt m′ b)
+    → (b : ℕ) → Touched p pmask a b
+    → bitAt (plotted pp t (2 ^ p - 1) pmask a s m) b ≡ bitAt (plotted pp t (2 ^ p - 1) pmask a s′ m′) b
+
+-- ---- windows
+
+-- Whatever W but 0 keeps of a rectangle lies in the window.
+abbrev pub KeptIsSeen : Type 0
+KeptIsSeen =
+    (w : ℕ) (r : Rectangle) (win : Window) (v : Bool) → (w ≡ 0 → ⊥) → (a b : ℕ) → Pixel (kept r (clipped w r win v)) a b → Seen win a b
+
+-- W 3 keeps every pixel of the rectangle that lies in the window.
+abbrev pub SeenIsKept : Type 0
+SeenIsKept =
+    (r : Rectangle) (win : Window) (v : Bool) (a b : ℕ) → Pixel r a b → Seen win a b → Pixel (kept r (clipped 3 r win v)) a b
+
+-- A walk that is not refused with 17 visits addresses inside the memory only, and a walk that visits only such is not refused.
+abbrev pub WalkInside : Type 0
+WalkInside =
+    (words start cols rows pitch step : ℕ) → noMemory words ≡ false
+    → (leavesMemory words start cols rows pitch step ≡ false)
+    ↔ ((i : ℕ) → i < cols * rows → addressOf start cols pitch step i < 16 * words)
 
 -- ---- images (demand 2)
 

@@ -4,7 +4,7 @@ use Rattle.cache.proofs.Cache.stored.Statement.{statement}
 use Rattle.cache.proofs.Cache.stored.Tie as tie
 
 returns : tie.Need-returns
-returns c = rw (c .used .ensures)
+returns c = rw (← c .used .ensures)
 
 pub stored-spec : {M : Type 1} → statement M
 stored-spec =

@@ -1,28 +1,28 @@
--- Proofs of `specs/Statements.antt`. Assumes nothing.
+-- An accepted state stays accepted, and a fetch answers Refused exactly for a refused one. No contract cites this file. Assumes nothing.
 use mathlib.Core.Path.{_≡_, refl}
 use mathlib.Core.Logic.{_↔_}
 use mathlib.Core.Bool.{Bool, true, false, cond}
-use Prim.Native.Nat.{ℕ}
+use Prim.Native.Nat.{ℕ, _^_, _<_}
 use native.Mathlib.Omega.{arith}
 use lib.ListN.{getD}
 use Rattle.lists.specs.Search.{any, first, anyPair}
+use Rattle.cache.specs.declared.Cache.{Cache}
 use Rattle.cache.specs.declared.Kind.the-variants.{Disabled, Refused}
-use Rattle.cache.specs.Cache.{refused, startOf, subsegmentOf, matches, segmentAt, hit, subsegmentMiss, segmentMiss, lookup, disabled, fetched}
-use Rattle.cache.specs.Statements.{FreshAccepted, FetchAccepted, RefusedExactly}
+use Rattle.cache.specs.Cache.{refused, startOf, subsegmentOf, matches, segmentAt, hit, subsegmentMiss, segmentMiss, lookup, disabled, fetched, freshCache}
 use Rattle.cache.proofs.CacheLaws.{accepted, not-refused, fetched-disabled, fetched-lookup, lookup-accepted}
 
-pub fresh-accepted : FreshAccepted
+pub fresh-accepted : refused freshCache ≡ false
 unfolding any anyPair refused
 fresh-accepted = refl
 
-pub fetch-accepted : FetchAccepted
+pub fetch-accepted : (c : Cache) (address control : ℕ) → address < 2 ^ 32 → refused c ≡ false → refused (fetched c address control .cache) ≡ false
 fetch-accepted c address control l ok = go (disabled control) refl
   where
     go : (b : Bool) → disabled control ≡ b → refused (fetched c address control .cache) ≡ false
     go true d = rw (fetched-disabled c address control ok d) ok
     go false d = rw (fetched-lookup c address control ok d) (not-refused (lookup-accepted c (accepted c ok) _ _ (omega arith)))
 
-pub refused-exactly : RefusedExactly
+pub refused-exactly : (c : Cache) (address control : ℕ) → (fetched c address control .kind ≡ Refused) ↔ (refused c ≡ true)
 unfolding fetched lookup
 refused-exactly c address control =
     go (refused c) (disabled control) (any (matches start) (c .segments)) (getD (segmentAt c i .present) sub false)

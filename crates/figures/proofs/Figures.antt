@@ -1,0 +1,41 @@
+-- The figures, by computing. Assumes nothing.
+use mathlib.Core.Path.{refl}
+use Rattle.memory.specs.Bits.{bitOf, bitAt, number}
+use Rattle.field.specs.Field.{refusal, register, fieldRead}
+use Rattle.timing.specs.Cycles.{caseOf}
+use Rattle.image.specs.Image.{stepped}
+use Rattle.lists.specs.Search.{any, first, anyPair}
+use Rattle.cache.specs.Cache.{refused, latest, lookup, fetched}
+use Rattle.pixel.specs.PixelOp.{operations, processed}
+use Rattle.pixel.specs.Pixel.{pixelOf, result, pixelAfter, withPixel, wordAfter}
+use Rattle.geometry.specs.Address.{xyAddress, badXYPitch}
+use Rattle.geometry.specs.Window.{common, clipped}
+use Rattle.geometry.specs.Walk.{addressOf, reaches, leavesMemory}
+use Rattle.pixt.specs.Lone.{xyDestination}
+use Rattle.pixt.specs.Lone as lone
+use Rattle.pixt.specs.Drav.{dravOf}
+use Rattle.figures.specs.Figures.{Figures}
+
+pub figures : Figures
+unfolding bitOf bitAt number refusal register fieldRead caseOf stepped any first anyPair refused latest lookup fetched operations processed pixelOf result pixelAfter withPixel wordAfter xyAddress badXYPitch common clipped addressOf reaches leavesMemory xyDestination lone.refusal dravOf
+figures =
+    record {
+      field = refl;
+      field-signed = refl;
+      field-case = refl;
+      add = refl;
+      add-saturate = refl;
+      subtract = refl;
+      subtract-wraps = refl;
+      subtract-saturate = refl;
+      masked = refl;
+      masked-transparent = refl;
+      start = refl;
+      clip = refl;
+      clip-start = refl;
+      clip-enough = refl;
+      clip-short = refl;
+      seed = refl;
+      drav = refl;
+      fetches = refl;
+    }

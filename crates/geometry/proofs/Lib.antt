@@ -1,0 +1,5 @@
+pub mod Arithmetic
+pub mod CoordinateLaws
+pub mod AddressLaws
+pub mod WindowLaws
+pub mod WalkLaws

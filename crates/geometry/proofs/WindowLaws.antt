@@ -1,0 +1,182 @@
+-- Windows: what W means, case by case; what is kept; the common rectangle is the intersection. No contract cites this file. Assumes nothing.
+use mathlib.Core.Path.{_≡_, refl, ap, subst}
+use mathlib.Core.Bool.{Bool, true, false, cond, not}
+use Prim.Native.Nat.{ℕ, suc, _+_, _-_, _≤_, _<_, max}
+use native.Mathlib.Omega.{arith}
+use borrow.Author.Tests.{eq-eqb, ne-eqb, leb-true, le-leb, not-true}
+use lib.Dec.{eqb, leb}
+use Rattle.memory.proofs.Tests.{and-true-left, and-true-right}
+use Rattle.geometry.proofs.Arithmetic.{positive-left, positive-right}
+use Rattle.geometry.specs.declared.Rectangle.{Rectangle}
+use Rattle.geometry.specs.declared.Window.{Window}
+use Rattle.geometry.specs.declared.Clipped.{Clipped}
+use Rattle.geometry.specs.Window.{before, shared, allIn, empty, inside, common, meet, nothing, whole, part, clipped}
+use Rattle.geometry.specs.Kept.{Pixel, Seen, kept}
+
+-- ---- what W means, case by case
+module _ (w : ℕ) (r : Rectangle) (win : Window) (v : Bool) where
+  pub clipped-zero : w ≡ 0 → clipped w r win v ≡ whole r v
+  unfolding clipped
+  clipped-zero h = rw (eq-eqb w 0 h)
+
+  module _ (nonzero : w ≡ 0 → ⊥) where
+    pub clipped-empty : empty r ≡ true → clipped w r win v ≡ nothing false false
+    unfolding clipped
+    clipped-empty e = rw (ne-eqb w 0 nonzero, e)
+
+    module _ (filled : empty r ≡ false) where
+      pub clipped-one : w ≡ 1 → clipped w r win v ≡ nothing (meet r win) (meet r win)
+      unfolding clipped
+      clipped-one h = rw (ne-eqb w 0 nonzero, filled, eq-eqb w 1 h)
+
+      module _ (not-one : w ≡ 1 → ⊥) where
+        pub clipped-two-inside : w ≡ 2 → inside r win ≡ true → clipped w r win v ≡ whole r false
+        unfolding clipped
+        clipped-two-inside h i = rw (ne-eqb w 0 nonzero, filled, ne-eqb w 1 not-one, eq-eqb w 2 h, i)
+
+        pub clipped-two-outside : w ≡ 2 → inside r win ≡ false → clipped w r win v ≡ nothing true true
+        unfolding clipped
+        clipped-two-outside h i = rw (ne-eqb w 0 nonzero, filled, ne-eqb w 1 not-one, eq-eqb w 2 h, i)
+
+        pub clipped-three : (w ≡ 2 → ⊥) → clipped w r win v ≡ part r win (not (inside r win))
+        unfolding clipped
+        clipped-three h = rw (ne-eqb w 0 nonzero, filled, ne-eqb w 1 not-one, ne-eqb w 2 h)
+
+-- ---- on one axis: n coordinates from c on, and a window from lo to hi
+module _ (c n lo hi : ℕ) where
+  pub shared-le : shared c n lo hi ≤ n
+  shared-le = omega arith
+
+  pub before-shared-le : 0 < shared c n lo hi → before c lo + shared c n lo hi ≤ n
+  before-shared-le h = omega arith
+
+  pub allIn-true : allIn c n lo hi ≡ true → (lo ≤ c) × (c + n ≤ suc hi)
+  allIn-true e = (leb-true lo c (and-true-left (leb lo c) (leb (c + n) (suc hi)) e), leb-true (c + n) (suc hi) (and-true-right (leb lo c) (leb (c + n) (suc hi)) e))
+
+-- ---- what is drawn, under any W
+
+-- every outcome draws the whole, nothing or the common part
+module _ (r : Rectangle) (win : Window) (P : Clipped → Type 0) (all : (v : Bool) → P (whole r v)) (none : (v q : Bool) → P (nothing v q)) (some : (v : Bool) → P (part r win v)) where
+  clipped-cases : (w : ℕ) (v : Bool) → P (clipped w r win v)
+  unfolding clipped
+  clipped-cases w v = go (eqb w 0) (empty r) (eqb w 1) (meet r win) (eqb w 2) (inside r win)
+    where
+      go : (z e o m t i : Bool) → P (cond z (whole r v) (cond e (nothing false false) (cond o (nothing m m) (cond t (cond i (whole r false) (nothing true true)) (part r win (not i))))))
+      go true e o m t i = all v
+      go false true o m t i = none false false
+      go false false true m t i = none m m
+      go false false false m true true = all false
+      go false false false m true false = none true true
+      go false false false m false i = some (not i)
+
+module _ (w : ℕ) (r : Rectangle) (win : Window) (v : Bool) where
+  -- the columns and rows kept are no more than the rectangle has
+  pub clipped-cols-le : clipped w r win v .cols ≤ r .cols
+  unfolding common
+  clipped-cols-le = clipped-cases r win (λ (k : Clipped). k .cols ≤ r .cols) (λ _. omega arith) (λ _ _. omega arith) (λ _. shared-le (r .x) (r .cols) (win .left) (win .right)) w v
+
+  pub clipped-rows-le : clipped w r win v .rows ≤ r .rows
+  unfolding common
+  clipped-rows-le = clipped-cases r win (λ (k : Clipped). k .rows ≤ r .rows) (λ _. omega arith) (λ _ _. omega arith) (λ _. shared-le (r .y) (r .rows) (win .top) (win .bottom)) w v
+
+  -- where something is kept, the columns and rows skipped and kept are inside the rectangle
+  pub clipped-left-le : 0 < clipped w r win v .cols → clipped w r win v .left + clipped w r win v .cols ≤ r .cols
+  unfolding common
+  clipped-left-le =
+      clipped-cases r win (λ (k : Clipped). 0 < k .cols → k .left + k .cols ≤ r .cols) (λ _ h. omega arith) (λ _ _ h. omega arith)
+      (λ _ h. before-shared-le (r .x) (r .cols) (win .left) (win .right) h) w v
+
+  pub clipped-above-le : 0 < clipped w r win v .rows → clipped w r win v .above + clipped w r win v .rows ≤ r .rows
+  unfolding common
+  clipped-above-le =
+      clipped-cases r win (λ (k : Clipped). 0 < k .rows → k .above + k .rows ≤ r .rows) (λ _ h. omega arith) (λ _ _ h. omega arith)
+      (λ _ h. before-shared-le (r .y) (r .rows) (win .top) (win .bottom) h) w v
+
+-- ---- the common rectangle is the intersection
+
+module _ (r : Rectangle) (win : Window) (a b : ℕ) where
+  pub common-pixel : Pixel r a b → Seen win a b → Pixel (common r win) a b
+  unfolding common
+  common-pixel p s = record { left = omega arith; right = omega arith; top = omega arith; bottom = omega arith }
+
+  pub pixel-of-common : Pixel (common r win) a b → Pixel r a b
+  unfolding common
+  pixel-of-common p = record { left = omega arith; right = omega arith; top = omega arith; bottom = omega arith }
+
+  pub seen-of-common : Pixel (common r win) a b → Seen win a b
+  unfolding common
+  seen-of-common p = record { left = omega arith; right = omega arith; top = omega arith; bottom = omega arith }
+
+-- ---- what is kept of a rectangle
+
+-- the common part is the common rectangle
+pub kept-part : (r : Rectangle) (win : Window) (v : Bool) → kept r (part r win v) ≡ common r win
+unfolding common
+kept-part r win v = λ i. record { x = across i; y = down i; cols = shared (r .x) (r .cols) (win .left) (win .right); rows = shared (r .y) (r .rows) (win .top) (win .bottom) }
+  where
+    across : r .x + (win .left - r .x) ≡ max (r .x) (win .left)
+    across = omega arith
+
+    down : r .y + (win .top - r .y) ≡ max (r .y) (win .top)
+    down = omega arith
+
+-- a rectangle with a pixel is not empty, and of nothing no pixel is kept
+pub filled-of-pixel : (r : Rectangle) (a b : ℕ) → Pixel r a b → empty r ≡ false
+filled-of-pixel r a b p = rw (ne-eqb (r .cols) 0 (λ z. omega arith), ne-eqb (r .rows) 0 (λ z. omega arith))
+
+pixel-of-nothing : (r : Rectangle) (v q : Bool) (a b : ℕ) → Pixel (kept r (nothing v q)) a b → ⊥
+pixel-of-nothing r v q a b p = omega arith
+
+-- a rectangle that is not empty lies wholly inside the window exactly where all its pixels do
+module _ (r : Rectangle) (win : Window) where
+  across : Bool
+  across = allIn (r .x) (r .cols) (win .left) (win .right)
+
+  down : Bool
+  down = allIn (r .y) (r .rows) (win .top) (win .bottom)
+
+  pub seen-of-inside : inside r win ≡ true → (a b : ℕ) → Pixel r a b → Seen win a b
+  unfolding across down
+  seen-of-inside i a b p =
+      let x : (win .left ≤ r .x) × (r .x + r .cols ≤ suc (win .right)) = allIn-true (r .x) (r .cols) (win .left) (win .right) (and-true-left across down i) in
+      let y : (win .top ≤ r .y) × (r .y + r .rows ≤ suc (win .bottom)) = allIn-true (r .y) (r .rows) (win .top) (win .bottom) (and-true-right across down i) in
+      record { left = omega arith; right = omega arith; top = omega arith; bottom = omega arith }
+
+  pub inside-of-seen : empty r ≡ false → ((a b : ℕ) → Pixel r a b → Seen win a b) → inside r win ≡ true
+  inside-of-seen e h =
+      let cols-pos : 0 < r .cols = positive-left (r .cols) (r .rows) e in
+      let rows-pos : 0 < r .rows = positive-right (r .cols) (r .rows) e in
+      let first : Seen win (r .x) (r .y) = h (r .x) (r .y) (record { left = omega arith; right = omega arith; top = omega arith; bottom = omega arith }) in
+      let last : Seen win (r .x + (r .cols - 1)) (r .y + (r .rows - 1)) = h (r .x + (r .cols - 1)) (r .y + (r .rows - 1)) (record { left = omega arith; right = omega arith; top = omega arith; bottom = omega arith }) in
+      rw (le-leb (win .left) (r .x) (first .left), le-leb (r .x + r .cols) (suc (win .right)) (omega arith), le-leb (win .top) (r .y) (first .top), le-leb (r .y + r .rows) (suc (win .bottom)) (omega arith))
+
+-- under W 1 to 3 what is kept lies in the window
+pub seen-of-kept : (w : ℕ) (r : Rectangle) (win : Window) (v : Bool) → (w ≡ 0 → ⊥) → (a b : ℕ) → Pixel (kept r (clipped w r win v)) a b → Seen win a b
+unfolding clipped
+seen-of-kept w r win v nonzero a b p = go (empty r) (eqb w 1) (meet r win) (eqb w 2) (inside r win) refl (rw (ne-eqb w 0 nonzero) at p)
+  where
+    go : (e o m t i : Bool) → inside r win ≡ i → Pixel (kept r (cond e (nothing false false) (cond o (nothing m m) (cond t (cond i (whole r false) (nothing true true)) (part r win (not i)))))) a b → Seen win a b
+    go true o m t i q p = absurd (pixel-of-nothing r false false a b p)
+    go false true m t i q p = absurd (pixel-of-nothing r m m a b p)
+    go false false m true true q p = seen-of-inside r win q a b (record { left = omega arith; right = omega arith; top = omega arith; bottom = omega arith })
+    go false false m true false q p = absurd (pixel-of-nothing r true true a b p)
+    go false false m false i q p = seen-of-common r win a b (subst (λ (k : Rectangle). Pixel k a b) (kept-part r win (not i)) p)
+
+-- under W 3 all that the rectangle and the window have in common is kept
+pub kept-pixel : (r : Rectangle) (win : Window) (v : Bool) (a b : ℕ) → Pixel r a b → Seen win a b → Pixel (kept r (clipped 3 r win v)) a b
+kept-pixel r win v a b p s =
+    rw (clipped-three 3 r win v (λ z. omega arith) (filled-of-pixel r a b p) (λ z. omega arith) (λ z. omega arith), kept-part r win (not (inside r win)))
+    (common-pixel r win a b p s)
+
+-- ---- the rectangles meet exactly where they have a pixel in common
+module _ (r : Rectangle) (win : Window) where
+  pub meet-of-pixel : (a b : ℕ) → Pixel r a b → Seen win a b → meet r win ≡ true
+  meet-of-pixel a b p s = ap not (filled-of-pixel (common r win) a b (common-pixel r win a b p s))
+
+  -- the upper left one
+  pub pixel-of-meet : meet r win ≡ true → Pixel (common r win) (common r win .x) (common r win .y)
+  pixel-of-meet m =
+      let e : empty (common r win) ≡ false = not-true (empty (common r win)) m in
+      let cols-pos : 0 < common r win .cols = positive-left (common r win .cols) (common r win .rows) e in
+      let rows-pos : 0 < common r win .rows = positive-right (common r win .cols) (common r win .rows) e in
+      record { left = omega arith; right = omega arith; top = omega arith; bottom = omega arith }

@@ -1,0 +1,5 @@
+pub mod Coordinate
+pub mod Address
+pub mod Window
+pub mod Walk
+pub mod Kept

@@ -1,0 +1,4 @@
+pub mod Control
+pub mod PixelOp
+pub mod Pixel
+pub mod Footprint

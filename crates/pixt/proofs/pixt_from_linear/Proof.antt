@@ -1,0 +1,20 @@
+-- `pixt::pixt_from_linear` meets its contract. Assumes nothing.
+use borrow.Author.Needs.{needs}
+use Rattle.pixt.proofs.pixt_from_linear.Statement.{statement}
+use Rattle.pixt.proofs.pixt_from_linear.Tie as tie
+
+linear-pixel-requires : tie.Need-linear-pixel-requires
+linear-pixel-requires c κs = search needs
+
+done-from-requires : tie.Need-done-from-requires
+done-from-requires c κs = search needs
+
+same-length : tie.Need-same-length
+same-length c = search needs
+
+returns : tie.Need-returns
+returns c = (cc, cc)
+
+pub pixt-from-linear-spec : {M : Type 1} → statement M
+pixt-from-linear-spec =
+    tie.close (tie.spec linear-pixel-requires done-from-requires same-length returns)

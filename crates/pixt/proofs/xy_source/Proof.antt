@@ -1,0 +1,31 @@
+-- `pixt::xy_source` meets its contract. Assumes nothing.
+use Rattle.pixt.specs.Lone.{xySource}
+use borrow.Author.Needs.{needs}
+use Rattle.pixt.proofs.xy_source.Statement.{statement}
+use Rattle.pixt.proofs.xy_source.Tie as tie
+
+place-of-requires : tie.Need-place-of-requires
+place-of-requires c κs = search needs
+
+bad-xy-pitch-requires : tie.Need-bad-xy-pitch-requires
+bad-xy-pitch-requires c κs = search needs
+
+bad-start-requires : tie.Need-bad-start-requires
+bad-start-requires c κs = search needs
+
+refusal-of-requires : tie.Need-refusal-of-requires
+refusal-of-requires c κs = search needs
+
+returns : tie.Need-returns
+unfolding xySource
+returns c = cc
+
+pub xy-source-spec : {M : Type 1} → statement M
+xy-source-spec =
+    tie.close
+    (tie.spec
+    place-of-requires
+    bad-xy-pitch-requires
+    bad-start-requires
+    refusal-of-requires
+    returns)

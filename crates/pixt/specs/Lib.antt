@@ -1,0 +1,3 @@
+pub mod Lone
+pub mod Pixt
+pub mod Drav
