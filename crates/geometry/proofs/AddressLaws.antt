@@ -19,13 +19,15 @@ unfolding xyAddress
 xyAddress-lt offset pitch psize x y = mod-lt _ (pow-pos 32)
 
 -- with an offset and a pitch that are multiples of the pixel size 2^k, so is the address
-pub xyAddress-multiple : (k offset pitch x y : ℕ) → k ≤ 4 → offset % 2 ^ k ≡ 0 → pitch % 2 ^ k ≡ 0 → xyAddress offset pitch (2 ^ k) x y % 2 ^ k ≡ 0
+pub xyAddress-multiple : (k offset pitch x y : ℕ) → k ≤ 4 → offset % 2 ^ k ≡ 0 → pitch % 2 ^ k ≡ 0
+    → xyAddress offset pitch (2 ^ k) x y % 2 ^ k ≡ 0
 unfolding xyAddress
 xyAddress-multiple k offset pitch x y h ho hp =
     mod-pow-mod k 32 _ (omega arith) ∙ multiple-sum (2 ^ k) offset (y - 2 ^ 15) pitch (x - 2 ^ 15) ho hp
 
 -- the products may be taken modulo 2^32 first
-pub xyAddress-parts : (offset pitch psize x y : ℕ) → (offset + (y - 2 ^ 15) * pitch % 2 ^ 32 + (x - 2 ^ 15) * psize % 2 ^ 32) % 2 ^ 32 ≡ xyAddress offset pitch psize x y
+pub xyAddress-parts : (offset pitch psize x y : ℕ)
+    → (offset + (y - 2 ^ 15) * pitch % 2 ^ 32 + (x - 2 ^ 15) * psize % 2 ^ 32) % 2 ^ 32 ≡ xyAddress offset pitch psize x y
 unfolding xyAddress
 xyAddress-parts offset pitch psize x y = omega arith
 
@@ -61,7 +63,11 @@ power-of-and-pred = bin-ind (λ (p : ℕ). 0 < p → bitAnd p (p - 1) ≡ 0 → 
 -- the test finds each of the n powers of two from 2^k on, and nothing else
 pub powerFrom-power : (k n p j : ℕ) → k ≤ j → j < k + n → p ≡ 2 ^ j → powerFrom k n p ≡ true
 powerFrom-power k zero p j h l e = absurd (omega arith)
-powerFrom-power k (suc n) p j h l e = elim (decLt k j) [ yes y ↦ rw (powerFrom-power (suc k) n p j y (omega arith) e) (or-true (eqb p (2 ^ k))) | no m ↦ here (omega arith) ]
+powerFrom-power k (suc n) p j h l e =
+    elim (decLt k j) [
+      | yes y ↦ rw (powerFrom-power (suc k) n p j y (omega arith) e) (or-true (eqb p (2 ^ k)))
+      | no m ↦ here (omega arith)
+    ]
   where
     here : j ≡ k → powerFrom k (suc n) p ≡ true
     here q = rw (eq-eqb p (2 ^ k) (e ∙ ap (λ (i : ℕ). 2 ^ i) q))

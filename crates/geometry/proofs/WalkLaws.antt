@@ -1,5 +1,5 @@
 -- Walks: the address by row and column, one step, alignment, and a walk that stays in memory. No contract cites this file. Assumes nothing.
-use mathlib.Core.Path.{_≡_, refl, sym, ap, ap₂, subst, subst₂, _∙_}
+use mathlib.Core.Path.{_≡_, refl, sym, ap, ap₂, subst, _∙_}
 use mathlib.Core.Bool.{Bool, true, false, cond, _||_}
 use Prim.Native.Nat.{ℕ, zero, suc, _+_, _-_, _*_, _/_, _%_, _^_, _≤_, _<_}
 use native.Mathlib.Nat.{mod-lt, mul-comm, mul-add, mul-le-mul-right, div-add-mod', div-lt-iff-lt-mul}
@@ -18,42 +18,39 @@ pub addressOf-lt : (start cols pitch step i : ℕ) → addressOf start cols pitc
 unfolding addressOf
 addressOf-lt start cols pitch step i = mod-lt _ (pow-pos 32)
 
--- ---- the next pixel, in its row or at the start of the next
-module _ (start cols pitch step i : ℕ) where
-  -- in the row: a step on
-  pub addressOf-step : i % cols + 1 < cols → addressOf start cols pitch step (i + 1) ≡ (addressOf start cols pitch step i + step) % 2 ^ 32
+-- ---- the address of a pixel by its row and column, and of the next pixel
+module _ (start cols pitch step : ℕ) where
+  pub addressOf-at : (r c : ℕ) → c < cols → addressOf start cols pitch step (r * cols + c) ≡ (start + r * pitch + c * step) % 2 ^ 32
   unfolding addressOf
-  addressOf-step h =
+  addressOf-at r c h = ap₂ (λ (q x : ℕ). (start + q * pitch + x * step) % 2 ^ 32) (digits-div r h) (digits-mod r h)
+
+  -- from the start of its row
+  pub addressOf-col : (i : ℕ) → addressOf start cols pitch step i ≡ ((start + i / cols * pitch) % 2 ^ 32 + i % cols * step) % 2 ^ 32
+  unfolding addressOf
+  addressOf-col i = omega arith
+
+  -- the next one in a row is a step on
+  pub addressOf-step : (i : ℕ) → i % cols + 1 < cols → addressOf start cols pitch step (i + 1) ≡ (addressOf start cols pitch step i + step) % 2 ^ 32
+  unfolding addressOf
+  addressOf-step i h =
       let e : i + 1 ≡ i / cols * cols + (i % cols + 1) = omega (arith, div-add-mod' i cols) in
-      ap₂ (λ (q c : ℕ). (start + q * pitch + c * step) % 2 ^ 32) (ap (λ (x : ℕ). x / cols) e ∙ digits-div (i / cols) h) (ap (λ (x : ℕ). x % cols) e ∙ digits-mod (i / cols) h)
-      ∙ sum (i / cols) (i % cols)
+      ap (addressOf start cols pitch step) e ∙ addressOf-at (i / cols) (i % cols + 1) h ∙ sum (i / cols) (i % cols)
     where
       sum : (q c : ℕ) → (start + q * pitch + (c + 1) * step) % 2 ^ 32 ≡ ((start + q * pitch + c * step) % 2 ^ 32 + step) % 2 ^ 32
       sum q c = omega arith
 
-  -- past the row's end: the start of the next row
-  pub addressOf-row : i % cols + 1 ≡ cols → addressOf start cols pitch step (i + 1) ≡ (start + (i / cols + 1) * pitch) % 2 ^ 32
-  unfolding addressOf
-  addressOf-row h =
+  -- past the end of a row it is the start of the next
+  pub addressOf-row : (i : ℕ) → i % cols + 1 ≡ cols → addressOf start cols pitch step (i + 1) ≡ (start + (i / cols + 1) * pitch) % 2 ^ 32
+  addressOf-row i h =
       let e : i + 1 ≡ (i / cols + 1) * cols + 0 = omega (arith, div-add-mod' i cols) in
-      let pos : 0 < cols = omega arith in
-      ap₂ (λ (q c : ℕ). (start + q * pitch + c * step) % 2 ^ 32) (ap (λ (x : ℕ). x / cols) e ∙ digits-div (i / cols + 1) pos) (ap (λ (x : ℕ). x % cols) e ∙ digits-mod (i / cols + 1) pos)
-      ∙ sum (i / cols)
+      ap (addressOf start cols pitch step) e ∙ addressOf-at (i / cols + 1) 0 (omega arith) ∙ sum (i / cols + 1)
     where
-      sum : (q : ℕ) → (start + (q + 1) * pitch + 0 * step) % 2 ^ 32 ≡ (start + (q + 1) * pitch) % 2 ^ 32
+      sum : (q : ℕ) → (start + q * pitch + 0 * step) % 2 ^ 32 ≡ (start + q * pitch) % 2 ^ 32
       sum q = omega arith
 
 -- which is the start of this row, plus the pitch
 pub row-next : (start pitch r : ℕ) → ((start + r * pitch) % 2 ^ 32 + pitch) % 2 ^ 32 ≡ (start + (r + 1) * pitch) % 2 ^ 32
 row-next start pitch r = omega arith
-
--- the first pixel of a row
-pub addressOf-first : (start cols pitch step i : ℕ) → i % cols ≡ 0 → addressOf start cols pitch step i ≡ (start + i / cols * pitch) % 2 ^ 32
-unfolding addressOf
-addressOf-first start cols pitch step i h = rw h (sum (i / cols))
-  where
-    sum : (q : ℕ) → (start + q * pitch + 0 * step) % 2 ^ 32 ≡ (start + q * pitch) % 2 ^ 32
-    sum q = omega arith
 
 -- ---- alignment: pixels of 2^k bits, with a start and a pitch that are multiples of 2^k
 module _ (k start cols pitch i : ℕ) (small : k ≤ 4) (hs : start % 2 ^ k ≡ 0) (hp : pitch % 2 ^ k ≡ 0) where
@@ -74,10 +71,10 @@ module _ (f : ℕ → ℕ) (limit : ℕ) where
   lt-of-reaches (suc n) e i h = go (lt-of-reaches n (or-false-right (leb limit (f n)) (reaches f limit n) e) i)
     where
       go : (i < n → f i < limit) → f i < limit
-      go r = elim (decLt i n) [ yes l ↦ r l | no l ↦ subst (λ (x : ℕ). f x < limit) (last l) (leb-false limit (f n) (or-false-left (leb limit (f n)) (reaches f limit n) e)) ]
+      go r = elim (decLt i n) [ yes l ↦ r l | no l ↦ last (omega arith) ]
         where
-          last : (i < n → ⊥) → n ≡ i
-          last l = omega arith
+          last : n ≡ i → f i < limit
+          last q = subst (λ (x : ℕ). f x < limit) q (leb-false limit (f n) (or-false-left (leb limit (f n)) (reaches f limit n) e))
 
   pub reaches-of-lt : (n : ℕ) → ((i : ℕ) → i < n → f i < limit) → reaches f limit n ≡ false
   unfolding reaches
@@ -85,7 +82,8 @@ module _ (f : ℕ → ℕ) (limit : ℕ) where
   reaches-of-lt (suc n) h = rw (lt-leb limit (f n) (h n (omega arith))) (reaches-of-lt n (λ i l. h i (omega arith)))
 
   -- a test that fails exactly where all addresses are below the limit
-  pub reaches-by : (n : ℕ) (t : Bool) → (t ≡ false → (i : ℕ) → i < n → f i < limit) → (((i : ℕ) → i < n → f i < limit) → t ≡ false) → reaches f limit n ≡ t
+  pub reaches-by : (n : ℕ) (t : Bool) → (t ≡ false → (i : ℕ) → i < n → f i < limit)
+      → (((i : ℕ) → i < n → f i < limit) → t ≡ false) → reaches f limit n ≡ t
   reaches-by n false h k = reaches-of-lt n (h refl)
   reaches-by n true h k = go (reaches f limit n) refl
     where
@@ -108,12 +106,11 @@ module _ (limit start cols rows pitch step : ℕ) where
     below-of-inside h i l = h (i / cols) (i % cols) (div-lt-iff-lt-mul pos .1 (rw mul-comm l)) (mod-lt i pos)
 
     inside-of-below : Below → Inside
-    unfolding addressOf
     inside-of-below h r c hr hc =
-        subst₂ (λ (q x : ℕ). (start + q * pitch + x * step) % 2 ^ 32 < limit) (digits-div r hc) (digits-mod r hc)
+        subst (λ (x : ℕ). x < limit) (addressOf-at start cols pitch step r c hc)
         (h (r * cols + c) (rw (mul-comm cols rows) (digits-lt hr hc)))
 
-    -- no memory has 2^24 bits or more, and no row is as wide
+    -- a memory has at most 2^24 bits, and a row is no wider
     module _ (some : 0 < rows) (most : limit ≤ 2 ^ 24) (fits : start < 2 ^ 32) (narrow : (cols - 1) * step ≤ 2 ^ 24) where
       last-col : (c : ℕ) → c < cols → c * step ≤ (cols - 1) * step
       last-col c h = let l : c ≤ cols - 1 = omega arith in mul-le-mul-right step l
@@ -179,7 +176,8 @@ module _ (words start cols rows pitch step : ℕ) where
   unfolding leavesMemory
   leavesMemory-of-noMemory e = rw e
 
-  pub leavesMemory-of-memory : noMemory words ≡ false → leavesMemory words start cols rows pitch step ≡ reaches (addressOf start cols pitch step) (16 * words) (cols * rows)
+  pub leavesMemory-of-memory : noMemory words ≡ false
+      → leavesMemory words start cols rows pitch step ≡ reaches (addressOf start cols pitch step) (16 * words) (cols * rows)
   unfolding leavesMemory
   leavesMemory-of-memory e = rw e
 
@@ -189,9 +187,11 @@ module _ (words start cols rows pitch step : ℕ) where
   leavesMemory-of-none e = rw (product-zero cols rows e) (cond-same (noMemory words))
 
   -- one that does not has all its pixels in memory, and the other way round
-  pub lt-of-leavesMemory : noMemory words ≡ false → leavesMemory words start cols rows pitch step ≡ false → (i : ℕ) → i < cols * rows → addressOf start cols pitch step i < 16 * words
+  pub lt-of-leavesMemory : noMemory words ≡ false → leavesMemory words start cols rows pitch step ≡ false
+      → (i : ℕ) → i < cols * rows → addressOf start cols pitch step i < 16 * words
   lt-of-leavesMemory e l = lt-of-reaches _ (16 * words) (cols * rows) (sym (leavesMemory-of-memory e) ∙ l)
 
-  pub leavesMemory-of-lt : ((i : ℕ) → i < cols * rows → addressOf start cols pitch step i < 16 * words) → leavesMemory words start cols rows pitch step ≡ false
+  pub leavesMemory-of-lt : ((i : ℕ) → i < cols * rows → addressOf start cols pitch step i < 16 * words)
+      → leavesMemory words start cols rows pitch step ≡ false
   unfolding leavesMemory
   leavesMemory-of-lt h = rw (reaches-of-lt _ (16 * words) (cols * rows) h) (cond-same (noMemory words))

@@ -1,9 +1,10 @@
 -- Windows: what W means, case by case; what is kept; the common rectangle is the intersection. No contract cites this file. Assumes nothing.
-use mathlib.Core.Path.{_≡_, refl, ap, subst}
+use mathlib.Core.Path.{_≡_, refl, ap}
 use mathlib.Core.Bool.{Bool, true, false, cond, not}
+use mathlib.Core.Logic.{_⊎_, inl, inr, ⊎-elim}
 use Prim.Native.Nat.{ℕ, suc, _+_, _-_, _≤_, _<_, max}
 use native.Mathlib.Omega.{arith}
-use borrow.Author.Tests.{eq-eqb, ne-eqb, leb-true, le-leb, not-true}
+use borrow.Author.Tests.{eq-eqb, ne-eqb, eqb-true, leb-true, le-leb, not-true}
 use lib.Dec.{eqb, leb}
 use Rattle.memory.proofs.Tests.{and-true-left, and-true-right}
 use Rattle.geometry.proofs.Arithmetic.{positive-left, positive-right}
@@ -51,68 +52,80 @@ module _ (c n lo hi : ℕ) where
   before-shared-le h = omega arith
 
   pub allIn-true : allIn c n lo hi ≡ true → (lo ≤ c) × (c + n ≤ suc hi)
-  allIn-true e = (leb-true lo c (and-true-left (leb lo c) (leb (c + n) (suc hi)) e), leb-true (c + n) (suc hi) (and-true-right (leb lo c) (leb (c + n) (suc hi)) e))
+  allIn-true e = (
+    leb-true lo c (and-true-left (leb lo c) (leb (c + n) (suc hi)) e),
+    leb-true (c + n) (suc hi) (and-true-right (leb lo c) (leb (c + n) (suc hi)) e),
+  )
 
 -- ---- what is drawn, under any W
 
--- every outcome draws the whole, nothing or the common part
-module _ (r : Rectangle) (win : Window) (P : Clipped → Type 0) (all : (v : Bool) → P (whole r v)) (none : (v q : Bool) → P (nothing v q)) (some : (v : Bool) → P (part r win v)) where
-  clipped-cases : (w : ℕ) (v : Bool) → P (clipped w r win v)
+-- the whole, where W is 0 or the rectangle lies inside; nothing; or the common part
+module _ (w : ℕ) (r : Rectangle) (win : Window) (v : Bool) (P : Clipped → Type 0) where
+  clipped-cases : ((w ≡ 0) ⊎ (inside r win ≡ true) → (u : Bool) → P (whole r u))
+      → ((u q : Bool) → P (nothing u q)) → ((u : Bool) → P (part r win u)) → P (clipped w r win v)
   unfolding clipped
-  clipped-cases w v = go (eqb w 0) (empty r) (eqb w 1) (meet r win) (eqb w 2) (inside r win)
+  clipped-cases all none some = go (eqb w 0) (empty r) (eqb w 1) (meet r win) (eqb w 2) (inside r win) refl refl
     where
-      go : (z e o m t i : Bool) → P (cond z (whole r v) (cond e (nothing false false) (cond o (nothing m m) (cond t (cond i (whole r false) (nothing true true)) (part r win (not i))))))
-      go true e o m t i = all v
-      go false true o m t i = none false false
-      go false false true m t i = none m m
-      go false false false m true true = all false
-      go false false false m true false = none true true
-      go false false false m false i = some (not i)
+      go : (z e o m t i : Bool) → eqb w 0 ≡ z → inside r win ≡ i
+          → P (cond z (whole r v) (cond e (nothing false false) (cond o (nothing m m)
+          (cond t (cond i (whole r false) (nothing true true)) (part r win (not i))))))
+      go true e o m t i p q = all (inl (eqb-true w 0 p)) v
+      go false true o m t i p q = none false false
+      go false false true m t i p q = none m m
+      go false false false m true true p q = all (inr q) false
+      go false false false m true false p q = none true true
+      go false false false m false i p q = some (not i)
 
-module _ (w : ℕ) (r : Rectangle) (win : Window) (v : Bool) where
-  -- the columns and rows kept are no more than the rectangle has
-  pub clipped-cols-le : clipped w r win v .cols ≤ r .cols
-  unfolding common
-  clipped-cols-le = clipped-cases r win (λ (k : Clipped). k .cols ≤ r .cols) (λ _. omega arith) (λ _ _. omega arith) (λ _. shared-le (r .x) (r .cols) (win .left) (win .right)) w v
+-- what is kept of a rectangle has no more columns and rows, and where it has some, those skipped and kept are inside it
+pub record Fits (r : Rectangle) (k : Clipped) : Type 0 where
+  pub cols : k .cols ≤ r .cols
+  pub rows : k .rows ≤ r .rows
+  pub left : 0 < k .cols → k .left + k .cols ≤ r .cols
+  pub above : 0 < k .rows → k .above + k .rows ≤ r .rows
 
-  pub clipped-rows-le : clipped w r win v .rows ≤ r .rows
-  unfolding common
-  clipped-rows-le = clipped-cases r win (λ (k : Clipped). k .rows ≤ r .rows) (λ _. omega arith) (λ _ _. omega arith) (λ _. shared-le (r .y) (r .rows) (win .top) (win .bottom)) w v
+pub clipped-fits : (w : ℕ) (r : Rectangle) (win : Window) (v : Bool) → Fits r (clipped w r win v)
+unfolding common
+clipped-fits w r win v =
+    clipped-cases w r win v (Fits r)
+    (λ _ u. record { cols = omega arith; rows = omega arith; left = λ h. omega arith; above = λ h. omega arith })
+    (λ u q. record { cols = omega arith; rows = omega arith; left = λ h. omega arith; above = λ h. omega arith })
+    (λ u. record {
+      cols = shared-le (r .x) (r .cols) (win .left) (win .right);
+      rows = shared-le (r .y) (r .rows) (win .top) (win .bottom);
+      left = before-shared-le (r .x) (r .cols) (win .left) (win .right);
+      above = before-shared-le (r .y) (r .rows) (win .top) (win .bottom);
+    })
 
-  -- where something is kept, the columns and rows skipped and kept are inside the rectangle
-  pub clipped-left-le : 0 < clipped w r win v .cols → clipped w r win v .left + clipped w r win v .cols ≤ r .cols
-  unfolding common
-  clipped-left-le =
-      clipped-cases r win (λ (k : Clipped). 0 < k .cols → k .left + k .cols ≤ r .cols) (λ _ h. omega arith) (λ _ _ h. omega arith)
-      (λ _ h. before-shared-le (r .x) (r .cols) (win .left) (win .right) h) w v
-
-  pub clipped-above-le : 0 < clipped w r win v .rows → clipped w r win v .above + clipped w r win v .rows ≤ r .rows
-  unfolding common
-  clipped-above-le =
-      clipped-cases r win (λ (k : Clipped). 0 < k .rows → k .above + k .rows ≤ r .rows) (λ _ h. omega arith) (λ _ _ h. omega arith)
-      (λ _ h. before-shared-le (r .y) (r .rows) (win .top) (win .bottom) h) w v
+-- no more is skipped than lies before the window
+pub clipped-skip-le : (w : ℕ) (r : Rectangle) (win : Window) (v : Bool) → (clipped w r win v .left ≤ win .left) × (clipped w r win v .above ≤ win .top)
+clipped-skip-le w r win v =
+    clipped-cases w r win v (λ (k : Clipped). (k .left ≤ win .left) × (k .above ≤ win .top)) (λ _ u. omega arith) (λ u q. omega arith) (λ u. omega arith)
 
 -- ---- the common rectangle is the intersection
 
 module _ (r : Rectangle) (win : Window) (a b : ℕ) where
   pub common-pixel : Pixel r a b → Seen win a b → Pixel (common r win) a b
   unfolding common
-  common-pixel p s = record { left = omega arith; right = omega arith; top = omega arith; bottom = omega arith }
+  common-pixel p s = omega arith
 
   pub pixel-of-common : Pixel (common r win) a b → Pixel r a b
   unfolding common
-  pixel-of-common p = record { left = omega arith; right = omega arith; top = omega arith; bottom = omega arith }
+  pixel-of-common p = omega arith
 
   pub seen-of-common : Pixel (common r win) a b → Seen win a b
   unfolding common
-  seen-of-common p = record { left = omega arith; right = omega arith; top = omega arith; bottom = omega arith }
-
--- ---- what is kept of a rectangle
+  seen-of-common p = omega arith
 
 -- the common part is the common rectangle
 pub kept-part : (r : Rectangle) (win : Window) (v : Bool) → kept r (part r win v) ≡ common r win
 unfolding common
-kept-part r win v = λ i. record { x = across i; y = down i; cols = shared (r .x) (r .cols) (win .left) (win .right); rows = shared (r .y) (r .rows) (win .top) (win .bottom) }
+kept-part r win v =
+    λ i. record {
+      x = across i;
+      y = down i;
+      cols = shared (r .x) (r .cols) (win .left) (win .right);
+      rows = shared (r .y) (r .rows) (win .top) (win .bottom);
+    }
   where
     across : r .x + (win .left - r .x) ≡ max (r .x) (win .left)
     across = omega arith
@@ -120,12 +133,9 @@ kept-part r win v = λ i. record { x = across i; y = down i; cols = shared (r .x
     down : r .y + (win .top - r .y) ≡ max (r .y) (win .top)
     down = omega arith
 
--- a rectangle with a pixel is not empty, and of nothing no pixel is kept
+-- a rectangle with a pixel is not empty
 pub filled-of-pixel : (r : Rectangle) (a b : ℕ) → Pixel r a b → empty r ≡ false
 filled-of-pixel r a b p = rw (ne-eqb (r .cols) 0 (λ z. omega arith), ne-eqb (r .rows) 0 (λ z. omega arith))
-
-pixel-of-nothing : (r : Rectangle) (v q : Bool) (a b : ℕ) → Pixel (kept r (nothing v q)) a b → ⊥
-pixel-of-nothing r v q a b p = omega arith
 
 -- a rectangle that is not empty lies wholly inside the window exactly where all its pixels do
 module _ (r : Rectangle) (win : Window) where
@@ -140,33 +150,43 @@ module _ (r : Rectangle) (win : Window) where
   seen-of-inside i a b p =
       let x : (win .left ≤ r .x) × (r .x + r .cols ≤ suc (win .right)) = allIn-true (r .x) (r .cols) (win .left) (win .right) (and-true-left across down i) in
       let y : (win .top ≤ r .y) × (r .y + r .rows ≤ suc (win .bottom)) = allIn-true (r .y) (r .rows) (win .top) (win .bottom) (and-true-right across down i) in
-      record { left = omega arith; right = omega arith; top = omega arith; bottom = omega arith }
+      omega arith
 
   pub inside-of-seen : empty r ≡ false → ((a b : ℕ) → Pixel r a b → Seen win a b) → inside r win ≡ true
   inside-of-seen e h =
       let cols-pos : 0 < r .cols = positive-left (r .cols) (r .rows) e in
       let rows-pos : 0 < r .rows = positive-right (r .cols) (r .rows) e in
-      let first : Seen win (r .x) (r .y) = h (r .x) (r .y) (record { left = omega arith; right = omega arith; top = omega arith; bottom = omega arith }) in
-      let last : Seen win (r .x + (r .cols - 1)) (r .y + (r .rows - 1)) = h (r .x + (r .cols - 1)) (r .y + (r .rows - 1)) (record { left = omega arith; right = omega arith; top = omega arith; bottom = omega arith }) in
-      rw (le-leb (win .left) (r .x) (first .left), le-leb (r .x + r .cols) (suc (win .right)) (omega arith), le-leb (win .top) (r .y) (first .top), le-leb (r .y + r .rows) (suc (win .bottom)) (omega arith))
+      let first : Seen win (r .x) (r .y) = h (r .x) (r .y) (omega arith) in
+      let last : Seen win (r .x + (r .cols - 1)) (r .y + (r .rows - 1)) = h (r .x + (r .cols - 1)) (r .y + (r .rows - 1)) (omega arith) in
+      rw (
+        le-leb (win .left) (r .x) (first .0),
+        le-leb (r .x + r .cols) (suc (win .right)) (omega arith),
+        le-leb (win .top) (r .y) (first .2),
+        le-leb (r .y + r .rows) (suc (win .bottom)) (omega arith),
+      )
 
--- under W 1 to 3 what is kept lies in the window
+-- what is kept are pixels of the rectangle
+pub pixel-of-kept : (w : ℕ) (r : Rectangle) (win : Window) (v : Bool) (a b : ℕ) → Pixel (kept r (clipped w r win v)) a b → Pixel r a b
+unfolding common
+pixel-of-kept w r win v a b =
+    clipped-cases w r win v (λ (k : Clipped). Pixel (kept r k) a b → Pixel r a b)
+    (λ _ u p. omega arith)
+    (λ u q p. absurd (omega arith))
+    (λ u p. omega arith)
+
+-- under W 1 to 3 they lie in the window
 pub seen-of-kept : (w : ℕ) (r : Rectangle) (win : Window) (v : Bool) → (w ≡ 0 → ⊥) → (a b : ℕ) → Pixel (kept r (clipped w r win v)) a b → Seen win a b
-unfolding clipped
-seen-of-kept w r win v nonzero a b p = go (empty r) (eqb w 1) (meet r win) (eqb w 2) (inside r win) refl (rw (ne-eqb w 0 nonzero) at p)
-  where
-    go : (e o m t i : Bool) → inside r win ≡ i → Pixel (kept r (cond e (nothing false false) (cond o (nothing m m) (cond t (cond i (whole r false) (nothing true true)) (part r win (not i)))))) a b → Seen win a b
-    go true o m t i q p = absurd (pixel-of-nothing r false false a b p)
-    go false true m t i q p = absurd (pixel-of-nothing r m m a b p)
-    go false false m true true q p = seen-of-inside r win q a b (record { left = omega arith; right = omega arith; top = omega arith; bottom = omega arith })
-    go false false m true false q p = absurd (pixel-of-nothing r true true a b p)
-    go false false m false i q p = seen-of-common r win a b (subst (λ (k : Rectangle). Pixel k a b) (kept-part r win (not i)) p)
+unfolding common
+seen-of-kept w r win v nonzero a b =
+    clipped-cases w r win v (λ (k : Clipped). Pixel (kept r k) a b → Seen win a b)
+    (λ why u p. ⊎-elim (λ z. absurd (nonzero z)) (λ i. seen-of-inside r win i a b (omega arith)) why)
+    (λ u q p. absurd (omega arith))
+    (λ u p. omega arith)
 
--- under W 3 all that the rectangle and the window have in common is kept
+-- under W 3 all pixels of the rectangle that lie in the window are kept
 pub kept-pixel : (r : Rectangle) (win : Window) (v : Bool) (a b : ℕ) → Pixel r a b → Seen win a b → Pixel (kept r (clipped 3 r win v)) a b
-kept-pixel r win v a b p s =
-    rw (clipped-three 3 r win v (λ z. omega arith) (filled-of-pixel r a b p) (λ z. omega arith) (λ z. omega arith), kept-part r win (not (inside r win)))
-    (common-pixel r win a b p s)
+unfolding common
+kept-pixel r win v a b p s = rw (clipped-three 3 r win v (λ z. omega arith) (filled-of-pixel r a b p) (λ z. omega arith) (λ z. omega arith)) (omega arith)
 
 -- ---- the rectangles meet exactly where they have a pixel in common
 module _ (r : Rectangle) (win : Window) where
@@ -179,4 +199,4 @@ module _ (r : Rectangle) (win : Window) where
       let e : empty (common r win) ≡ false = not-true (empty (common r win)) m in
       let cols-pos : 0 < common r win .cols = positive-left (common r win .cols) (common r win .rows) e in
       let rows-pos : 0 < common r win .rows = positive-right (common r win .cols) (common r win .rows) e in
-      record { left = omega arith; right = omega arith; top = omega arith; bottom = omega arith }
+      omega arith

@@ -5,19 +5,12 @@ use Rattle.geometry.specs.declared.Rectangle.{Rectangle}
 use Rattle.geometry.specs.declared.Window.{Window}
 use Rattle.geometry.specs.declared.Clipped.{Clipped}
 
--- column a and row b are a pixel of the rectangle
-pub record Pixel (r : Rectangle) (a b : ℕ) : Type 0 where
-  pub left : r .x ≤ a
-  pub right : a < r .x + r .cols
-  pub top : r .y ≤ b
-  pub bottom : b < r .y + r .rows
+-- column a and row b are a pixel of the rectangle; they lie in the window
+abbrev pub Pixel : Rectangle → ℕ → ℕ → Type 0
+Pixel r a b = (r .x ≤ a) × (a < r .x + r .cols) × (r .y ≤ b) × (b < r .y + r .rows)
 
--- they lie in the window
-pub record Seen (win : Window) (a b : ℕ) : Type 0 where
-  pub left : win .left ≤ a
-  pub right : a ≤ win .right
-  pub top : win .top ≤ b
-  pub bottom : b ≤ win .bottom
+abbrev pub Seen : Window → ℕ → ℕ → Type 0
+Seen win a b = (win .left ≤ a) × (a ≤ win .right) × (win .top ≤ b) × (b ≤ win .bottom)
 
 -- what is kept of a rectangle
 abbrev pub kept : Rectangle → Clipped → Rectangle

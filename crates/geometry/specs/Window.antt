@@ -1,5 +1,5 @@
--- The window (the scope, "Arrays, windows and slices"): what W 0 to 3 mean for a destination rectangle X to X+DX-1, Y to Y+DY-1 in
--- whole numbers, unwrapped. The window includes its ends. Assumes nothing.
+-- The window (the scope, "Arrays, windows and slices"; 002 section 7.10): what W 0 to 3 mean for a destination rectangle X to X+DX-1,
+-- Y to Y+DY-1 in whole numbers, unwrapped. The window includes its ends. Assumes nothing.
 use mathlib.Core.Bool.{Bool, true, false, cond, not, _&&_, _||_}
 use Prim.Native.Nat.{ℕ, suc, _+_, _-_, min, max}
 use lib.Dec.{eqb, leb, ltb}

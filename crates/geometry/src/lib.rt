@@ -1,6 +1,6 @@
 // Coordinates, addresses, windows and walks.
 ghost use mathlib.Core.Path.{_≡_};
-ghost use Prim.Native.Nat.{_+_, _-_, _*_, _%_, _^_, _<_, _≤_, max, min};
+ghost use Prim.Native.Nat.{_-_, _*_, _%_, _^_, _<_, _≤_, max, min};
 ghost use Rattle.geometry.specs.Address.{xyAddress, badXYPitch, badLinearPitch, misaligned};
 ghost use Rattle.geometry.specs.Coordinate.{xOf, yOf, negative, halfOf, registerOf};
 ghost use Rattle.geometry.specs.Walk.{addressOf, reaches, leavesMemory};
@@ -87,7 +87,7 @@ fn times(c: u32, distance: u32) -> u64
     less(c, 32768) as u64 * distance as u64 % 4294967296
 }
 
-// Refusal 13 for an XY array or a lone XY pixel. Of a power of two alone the bits below its only 1 bit have none in common with it.
+// Refusal 13 for an XY array or a lone XY pixel. A power of two, and no other number but 0, has no bit in common with the number before it.
 pub fn bad_xy_pitch(pitch: u32) -> bool
     ensures { λ r. ⌜ r ≡ badXYPitch pitch ⌝ }
 {

@@ -1,0 +1,20 @@
+-- `drawing::bad_dest` meets its contract. Assumes nothing.
+use borrow.Author.Needs.{needs}
+use Rattle.drawing.proofs.bad_dest.Statement.{statement}
+use Rattle.drawing.proofs.bad_dest.Tie as tie
+
+negative-start-requires : tie.Need-negative-start-requires
+negative-start-requires c κs = search needs
+
+misaligned-requires : tie.Need-misaligned-requires
+misaligned-requires c κs = search needs
+
+to-xy-requires : tie.Need-to-xy-requires
+to-xy-requires c κs = search needs
+
+returns : tie.Need-returns
+returns c = cc
+
+pub bad-dest-spec : {M : Type 1} → statement M
+bad-dest-spec =
+    tie.close (tie.spec negative-start-requires misaligned-requires to-xy-requires returns)

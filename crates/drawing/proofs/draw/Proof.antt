@@ -1,0 +1,105 @@
+-- `drawing::draw` meets its contract. Assumes nothing.
+use mathlib.Core.Path.{_≡_, refl, sym, ap, ap₂, _∙_}
+use Prim.Native.Nat.{ℕ, _+_, _^_, _<_, _≤_}
+use native.Mathlib.Omega.{arith}
+use borrow.Author.Needs.{needs}
+use borrow.Author.Tests.{eq-eqb, ne-eqb}
+use lib.ListN.{length}
+use Rattle.geometry.specs.declared.Clipped.{Clipped}
+use Rattle.engine.specs.Engine.{pixels, visits, visitedFrom}
+use Rattle.engine.specs.declared.Drawing.{Drawing}
+use Rattle.drawing.specs.Array.{part, vAfter, drawingOf, drawingFor}
+use Rattle.drawing.specs.Refusal.{refusalOf, refusal}
+use Rattle.drawing.specs.Draw.{refused, outcomeAt, visitedBy, outcome, drawn}
+use Rattle.drawing.proofs.PartLaws.{part-skip}
+use Rattle.drawing.proofs.RefusalLaws.{place-le}
+use Rattle.drawing.proofs.draw.Statement.{statement}
+use Rattle.drawing.proofs.draw.Tie as tie
+
+-- the drawing and the refusal are the definition's
+drawing-is : (c : tie.After-drawing-of) → c .drawing-of .result ≡ drawingFor (c .before .before .before .args .op) (c .before .before .before .args .s)
+drawing-is c = c .drawing-of .ensures ∙ ap (drawingOf (c .before .before .before .args .op) (c .before .before .before .args .s)) (c .before .part-of .ensures)
+
+refusal-is : (c : tie.After-refusal-of)
+    → c .refusal-of .result ≡ refusal (c .before .before .before .before .args .op) (c .before .before .before .before .args .s) (c .before .before .before .before .args .place) (length (c .before .before .before .before .args .memory .now))
+unfolding refusal
+refusal-is c =
+    let x = c .before .before .before .before .args in
+    c .refusal-of .ensures
+    ∙ ap₂ (λ (k : Clipped) (d : Drawing). refusalOf (x .op) (x .s) k d (x .place) (length (x .memory .now))) (c .before .before .part-of .ensures) (drawing-is (c .before))
+
+part-of-requires : tie.Need-part-of-requires
+part-of-requires c κs = search needs
+
+drawing-of-requires : tie.Need-drawing-of-requires
+drawing-of-requires c κs = rw (c .part-of .ensures) (part-skip _ _)
+
+refusal-of-requires : tie.Need-refusal-of-requires
+unfolding drawingOf
+refusal-of-requires c κs =
+    let k = part-skip (c .before .before .before .args .op) (c .before .before .before .args .s) in
+    rw (c .before .part-of .ensures) (k .0, k .1, ap (λ (d : Drawing). d .psize) (c .drawing-of .ensures))
+
+refused-requires : tie.Need-refused-requires
+refused-requires c κs = search needs
+
+returns : tie.Need-returns
+unfolding outcome drawn
+returns c =
+    let r = c .before .before in
+    let x = r .before .before .before .before .args in
+    let nz : refusal (x .op) (x .s) (x .place) (length (x .memory .now)) ≡ 0 → ⊥ = λ z. c .before .if1 .taken (refusal-is r ∙ z) in
+    (rw (ne-eqb _ _ nz) (c .refused .ensures ∙ ap (λ (a : ℕ). refused (x .s) (x .place) (x .v) a) (refusal-is r)), rw (ne-eqb _ _ nz))
+
+run-requires : tie.Need-run-requires
+run-requires c κs = search needs
+
+v-after-requires : tie.Need-v-after-requires
+v-after-requires c κs = search needs
+
+place-after-requires : tie.Need-place-after-requires
+place-after-requires c κs =
+    let u = c .before .before .before in
+    let r = u .before .before .before in
+    let d = r .before in
+    let x = d .before .before .before .args in
+    let z : refusal (x .op) (x .s) (x .place) (length (x .memory .now)) ≡ 0 = sym (refusal-is r) ∙ u .before .before .if1 .left in
+    let at : x .place ≤ pixels (d .drawing-of .result) = rw (drawing-is d) (place-le (x .op) (x .s) (x .place) (length (x .memory .now)) z) in
+    omega (arith, at, u .run .ensures .0)
+
+outcome-at-requires : tie.Need-outcome-at-requires
+outcome-at-requires c κs = search needs
+
+same-length : tie.Need-same-length
+same-length c = search needs
+
+returns-2 : tie.Need-returns-2
+unfolding outcome drawn
+returns-2 c =
+    let u = c .before .before .before .before .before in
+    let r = u .before .before .before in
+    let d = r .before in
+    let x = d .before .before .before .args in
+    let z : refusal (x .op) (x .s) (x .place) (length (x .memory .now)) ≡ 0 = sym (refusal-is r) ∙ u .before .before .if1 .left in
+    let part-is : d .before .part-of .result ≡ part (x .op) (x .s) = d .before .part-of .ensures in
+    let drawing : d .drawing-of .result ≡ drawingFor (x .op) (x .s) = drawing-is d in
+    let v-is : c .before .before .v-after .result ≡ vAfter (x .op) (x .s) (x .v) = c .before .before .v-after .ensures in
+    let visited-is : u .run .result ≡ visitedFrom (drawingFor (x .op) (x .s)) (x .place) (x .budget) = u .run .ensures .0 ∙ ap (λ (e : Drawing). visitedFrom e (x .place) (x .budget)) drawing in
+    let next-is : c .before .place-after .result ≡ x .place + u .run .result = c .before .place-after .ensures in
+    (rw (eq-eqb _ _ z) (c .outcome-at .ensures ∙ (cc)), rw (eq-eqb _ _ z) (u .run .ensures .1 ∙ ap (λ (e : Drawing). visits e (x .place) (visitedFrom e (x .place) (x .budget)) (x .memory .now)) drawing))
+
+pub draw-spec : {M : Type 1} → statement M
+draw-spec =
+    tie.close
+    (tie.spec
+    part-of-requires
+    drawing-of-requires
+    refusal-of-requires
+    refused-requires
+    returns
+    run-requires
+    v-after-requires
+    place-after-requires
+    outcome-at-requires
+    same-length
+    returns-2)

@@ -1,0 +1,4 @@
+pub mod Operation
+pub mod Array
+pub mod Refusal
+pub mod Draw

@@ -1,0 +1,5 @@
+pub mod PlaceLaws
+pub mod SourceLaws
+pub mod VisitsLaws
+pub mod Drawn
+pub mod FootprintLaws

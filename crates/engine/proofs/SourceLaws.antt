@@ -1,0 +1,40 @@
+-- S by the source of the drawing, and the step of a source. No contract cites this file. Assumes nothing.
+use mathlib.Core.Path.{_≡_, ap, _∙_}
+use mathlib.Core.Bool.{cond}
+use mathlib.Core.List.{List}
+use Prim.Native.Nat.{ℕ, _/_, _^_, _<_}
+use native.Mathlib.Omega.{arith}
+use borrow.Author.Tests.{eq-eqb, ne-eqb}
+use lib.Dec.{eqb}
+use lib.ListN.{getD}
+use Rattle.memory.specs.Bits.{bitAt}
+use Rattle.pixel.specs.Pixel.{topOf, pixelOf}
+use Rattle.engine.specs.declared.Source.{Source}
+use Rattle.engine.specs.declared.Source.the-variants.{Color, Pixels, Bits}
+use Rattle.engine.specs.declared.Drawing.{Drawing}
+use Rattle.engine.specs.Engine.{stepOf, colorAt, sourceBy, sourceAt}
+
+module _ (d : Drawing) (from to : ℕ) (m : List ℕ) where
+  by-source : {k : Source} → d .source ≡ k → sourceAt d from to m ≡ sourceBy k d from to m
+  unfolding sourceAt
+  by-source e = ap (λ (k : Source). sourceBy k d from to m) e
+
+  pub source-color : d .source ≡ Color → sourceAt d from to m ≡ colorAt d (d .color1) to
+  source-color e = by-source e
+
+  pub source-pixels : d .source ≡ Pixels → sourceAt d from to m ≡ pixelOf (topOf (d .psize)) (getD m (from / 16) 0) from
+  source-pixels e = by-source e
+
+  pub source-bits : d .source ≡ Bits → sourceAt d from to m ≡ cond (eqb (bitAt m from) 1) (colorAt d (d .color1) to) (colorAt d (d .color0) to)
+  source-bits e = by-source e
+
+  pub source-one : d .source ≡ Bits → bitAt m from ≡ 1 → sourceAt d from to m ≡ colorAt d (d .color1) to
+  source-one e z = by-source e ∙ rw (eq-eqb _ _ z)
+
+  pub source-zero : d .source ≡ Bits → (bitAt m from ≡ 1 → ⊥) → sourceAt d from to m ≡ colorAt d (d .color0) to
+  source-zero e z = by-source e ∙ rw (ne-eqb _ _ z)
+
+pub stepOf-lt : (k : Source) {p : ℕ} → p < 2 ^ 16 → stepOf k p < 2 ^ 16
+stepOf-lt Color h = omega arith
+stepOf-lt Pixels h = h
+stepOf-lt Bits h = omega arith

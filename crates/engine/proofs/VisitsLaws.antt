@@ -1,0 +1,57 @@
+-- Visits one after the other: none, one more, a slice and then another; the memory keeps its length and its words their 16 bits.
+-- No contract cites this file. Assumes nothing.
+use mathlib.Core.Path.{_≡_, refl, ap, _∙_}
+use mathlib.Core.List.{List}
+use Prim.Native.Nat.{ℕ, zero, suc, _+_, _*_, _^_, _≤_, _<_}
+use native.Mathlib.Nat.{pos-of-ne-zero, zero-mul, add-zero, add-suc, add-assoc}
+use native.Mathlib.Numerals.{add-one}
+use native.Mathlib.Omega.{arith}
+use lib.ListN.{length}
+use Rattle.memory.specs.Bits.{Memory}
+use Rattle.pixel.proofs.PixelLaws.{length-plotted, memory-plotted}
+use Rattle.geometry.proofs.Arithmetic.{product-lt}
+use Rattle.engine.specs.declared.Drawing.{Drawing}
+use Rattle.engine.specs.Engine.{pixels, visitedFrom, drawnAt, visit, visits}
+
+pub pixels-lt : (d : Drawing) → d .cols < 2 ^ 16 → d .rows < 2 ^ 16 → pixels d < 2 ^ 32
+pixels-lt d hc hr = product-lt 16 16 hc hr
+
+-- where some pixel is visited, there is a column, and the pixels visited are the drawing's
+pub visited-some : (d : Drawing) (k b : ℕ) {c : ℕ} → c ≡ visitedFrom d k b → (c ≡ 0 → ⊥) → (0 < d .cols) × (k + c ≤ pixels d)
+visited-some d k b {c} e n =
+    let some : d .cols ≡ 0 → ⊥ = λ z. n (e ∙ omega (arith, ap (λ (x : ℕ). x * d .rows) z, zero-mul (d .rows))) in
+    (pos-of-ne-zero some, omega (arith, e, n))
+
+module _ (d : Drawing) (from to : ℕ) where
+  pub length-drawnAt : (m : List ℕ) → length (drawnAt d from to m) ≡ length m
+  unfolding drawnAt
+  length-drawnAt m = length-plotted (d .pp) (d .t) _ (d .pmask) to _ m
+
+  pub memory-drawnAt : {n : ℕ} {m : List ℕ} → Memory n m → Memory n (drawnAt d from to m)
+  unfolding drawnAt
+  memory-drawnAt g = memory-plotted (d .pp) (d .t) _ (d .pmask) to _ g
+
+module _ (d : Drawing) (k : ℕ) where
+  pub visits-none : (m : List ℕ) → visits d k 0 m ≡ m
+  unfolding visits
+  visits-none m = refl
+
+  pub visits-next : (n : ℕ) (m : List ℕ) → visits d k (n + 1) m ≡ visit d (k + n) (visits d k n m)
+  unfolding visits
+  visits-next n m = rw add-one
+
+  pub length-visits : (n : ℕ) (m : List ℕ) → length (visits d k n m) ≡ length m
+  unfolding visits
+  length-visits zero m = refl
+  length-visits (suc n) m = length-drawnAt d _ _ (visits d k n m) ∙ length-visits n m
+
+  pub memory-visits : (n : ℕ) {w : ℕ} {m : List ℕ} → Memory w m → Memory w (visits d k n m)
+  unfolding visits
+  memory-visits zero g = g
+  memory-visits (suc n) g = memory-drawnAt d _ _ (memory-visits n g)
+
+  -- a slice and then another
+  pub visits-add : (a b : ℕ) (m : List ℕ) → visits d k (a + b) m ≡ visits d (k + a) b (visits d k a m)
+  unfolding visits
+  visits-add a zero m = rw add-zero
+  visits-add a (suc b) m = rw (add-suc, ← add-assoc k a b) (ap (visit d (k + a + b)) (visits-add a b m))

@@ -1,0 +1,4 @@
+pub mod Footprint
+pub mod Machine
+pub mod Schedule
+pub mod Claims

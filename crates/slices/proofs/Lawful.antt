@@ -1,0 +1,110 @@
+-- The laws that the theory of slices asks for hold of `drawings`. No contract cites this file. Assumes nothing.
+use mathlib.Core.Path.{_≡_, refl, sym, ap, subst}
+use mathlib.Core.Bool.{Bool, true, false, cond, not, _&&_, _||_, false≢true}
+use Prim.Native.Nat.{ℕ, _+_, _*_, _%_, _^_, _≤_, _<_}
+use native.Mathlib.Omega.{arith}
+use borrow.Author.Tests.{eqb-true, ne-eqb, not-false}
+use lib.Dec.{eqb}
+use Rattle.memory.proofs.Tests.{or-false-left, or-false-right}
+use Rattle.pixel.specs.Control.{windowing}
+use Rattle.pixel.specs.Pixel.{badPixelSize}
+use Rattle.pixel.proofs.SizeLaws.{by-size}
+use Rattle.geometry.specs.Address.{misaligned}
+use Rattle.geometry.specs.Walk.{addressOf}
+use Rattle.geometry.proofs.Arithmetic.{multiple-of-16}
+use Rattle.geometry.proofs.AddressLaws.{multiple-of-badXYPitch, multiple-of-badLinearPitch}
+use Rattle.geometry.proofs.WalkLaws.{addressOf-room, lt-of-leavesMemory}
+use Rattle.settings.specs.declared.Settings.{Settings}
+use Rattle.engine.specs.declared.Source.{Source}
+use Rattle.engine.specs.declared.Source.the-variants.{Pixels}
+use Rattle.engine.specs.Engine.{pixels, stepOf, destOf, srcOf, visit}
+use Rattle.engine.specs.Footprint.{PixelWrites, PixelReads}
+use Rattle.engine.proofs.FootprintLaws.{memory-visit, visit-frame, visit-depend}
+use Rattle.drawing.specs.declared.Operation.{Operation}
+use Rattle.drawing.specs.Operation.{toXY, fromXY, sourceOf, copiesPixels}
+use Rattle.drawing.specs.Array.{part, vAfter, drawingOf, drawingFor, destStart, srcStart}
+use Rattle.drawing.specs.Refusal.{badPitch, badDest, badSource, negativeStart}
+use Rattle.interleave.specs.Footprint.{Foot}
+use Rattle.interleave.specs.Machine.{Lawful}
+use Rattle.slices.specs.Slices.{drawings, Writes, Reads}
+use Rattle.drawing.proofs.RefusalLaws.{Passes, passes, refusal-ten, refusal-place}
+
+-- a test that is false, and of which one part is true
+and-false : (a b : Bool) → a ≡ true → (a && b) ≡ false → b ≡ false
+and-false true b e h = h
+and-false false b e h = absurd (false≢true e)
+
+-- a pitch that is not refused
+multiple-of-badPitch : (xy : Bool) (pitch : ℕ) → badPitch xy pitch ≡ false → pitch % 16 ≡ 0
+multiple-of-badPitch true pitch e = multiple-of-badXYPitch pitch e
+multiple-of-badPitch false pitch e = multiple-of-badLinearPitch pitch e
+
+-- with a start at a multiple of the pixel size, each pixel of a walk lies within one word
+walk-room : (p : ℕ) → badPixelSize p ≡ false → (start cols pitch i : ℕ) → misaligned p start ≡ false → pitch % 16 ≡ 0
+    → addressOf start cols pitch p i % 16 + p ≤ 16
+walk-room p e start cols pitch i h hp = room p e (eqb-true (start % p) 0 (not-false _ h))
+  where
+    at : (k : ℕ) → k ≤ 4 → start % 2 ^ k ≡ 0 → addressOf start cols pitch (2 ^ k) i % 16 + 2 ^ k ≤ 16
+    at k hk hs = addressOf-room k start cols pitch i hk hs (multiple-of-16 k pitch hk hp)
+
+    room : (p : ℕ) → badPixelSize p ≡ false → start % p ≡ 0 → addressOf start cols pitch p i % 16 + p ≤ 16
+    room =
+        by-size (λ p. start % p ≡ 0 → addressOf start cols pitch p i % 16 + p ≤ 16)
+        (at 0 (omega arith)) (at 1 (omega arith)) (at 2 (omega arith)) (at 3 (omega arith)) (at 4 (omega arith))
+
+-- ---- the pixels of an accepted drawing
+module _ (op : Operation) (s : Settings) (w : ℕ) (p : Passes op s 0 w) (i : ℕ) (h : i < pixels (drawingFor op s)) where
+  abbrev badTo : Bool
+  badTo = badDest op s (part op s) (drawingFor op s)
+
+  abbrev badFrom : Bool
+  badFrom = badSource op s (part op s) (drawingFor op s)
+
+  -- there are pixels, so that 16 looks at the starts
+  starts : (badTo || badFrom) ≡ false
+  starts = and-false _ _ (ap not (ne-eqb (pixels (drawingFor op s)) 0 (omega arith))) (p .starts)
+
+  dest-inside : destOf (drawingFor op s) i < 16 * w
+  dest-inside = lt-of-leavesMemory w _ _ _ _ _ (p .words) (or-false-left _ _ (p .room)) i h
+
+  dest-fits : destOf (drawingFor op s) i % 16 + drawingFor op s .psize ≤ 16
+  unfolding drawingOf
+  dest-fits =
+      walk-room (s .psize) (p .size) (destStart op s (part op s)) _ (s .dptch) i
+      (or-false-right (toXY op && negativeStart (s .daddr) (part op s)) _ (or-false-left badTo badFrom starts))
+      (multiple-of-badPitch (toXY op) (s .dptch) (or-false-left _ _ (p .pitches)))
+
+  src-fits : drawingFor op s .source ≡ Pixels → srcOf (drawingFor op s) i % 16 + drawingFor op s .psize ≤ 16
+  unfolding drawingOf
+  src-fits e =
+      let c : copiesPixels (sourceOf op) ≡ true = ap copiesPixels e in
+      subst (λ (k : Source). addressOf (srcStart op s (part op s)) (part op s .cols) (s .sptch) (stepOf k (s .psize)) i % 16 + s .psize ≤ 16) (sym e)
+      (walk-room (s .psize) (p .size) (srcStart op s (part op s)) _ (s .sptch) i
+      (or-false-right (fromXY op && negativeStart (s .saddr) (part op s)) _ (and-false _ _ c (or-false-right badTo badFrom starts)))
+      (multiple-of-badPitch (fromXY op) (s .sptch) (and-false _ _ c (or-false-right (badPitch (toXY op) (s .dptch)) _ (p .pitches)))))
+
+  pixel-foot : Foot w (PixelWrites (drawingFor op s) i) (PixelReads (drawingFor op s) i) (visit (drawingFor op s) i)
+  pixel-foot =
+      record {
+        good = λ m g. memory-visit w (drawingFor op s) i g;
+        frame = λ m g a. visit-frame w (drawingFor op s) i dest-inside dest-fits g a;
+        depend = λ m m′ g g′ e. visit-depend w (drawingFor op s) i dest-inside dest-fits src-fits g g′ e;
+      }
+
+-- V is worked out anew, or stays
+vAfter-twice : (op : Operation) (s : Settings) (v : Bool) → vAfter op s (vAfter op s v) ≡ vAfter op s v
+unfolding vAfter
+vAfter-twice op s v = go (toXY op && not (eqb (windowing (s .control)) 0))
+  where
+    go : (t : Bool) → cond t (part op s .v) (cond t (part op s .v) v) ≡ cond t (part op s .v) v
+    go true = refl
+    go false = refl
+
+pub lawful : (w : ℕ) → Lawful drawings w Writes Reads
+lawful w =
+    record {
+      numbers = λ j k. refusal-ten (j .operation) (j .settings) k w;
+      placed = λ j k. refusal-place (j .operation) (j .settings) k w;
+      flags = λ j. vAfter-twice (j .operation) (j .settings);
+      foot = λ j i e. pixel-foot (j .operation) (j .settings) w (passes (j .operation) (j .settings) 0 w e) i;
+    }
