@@ -504,17 +504,18 @@ static void fetches_with_equal_starts(void)
 
 /* ---- Kind 6: images ---- */
 
-/* 6: seed low, seed high, words, word 0..11. */
+/* 6: seed low, seed high, words, word 0..11, answer. */
 static void vector_image(uint64_t seed, uint32_t words)
 {
     uint16_t word[12] = { 0 };
     struct memory m = { word, words };
-    image_make(m, seed);
+    int answer = image_make(m, seed);
     struct line l = line_of_kind(6);
     add(&l, (uint32_t)(seed & 0xFFFFFFFFu));
     add(&l, (uint32_t)(seed >> 32));
     add(&l, words);
     add_words(&l, word, words, 12);
+    add(&l, (uint32_t)answer);
     write_line(&l);
 }
 

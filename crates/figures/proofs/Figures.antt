@@ -14,10 +14,14 @@ use Rattle.geometry.specs.Walk.{addressOf, reaches, leavesMemory}
 use Rattle.pixt.specs.Lone.{xyDestination}
 use Rattle.pixt.specs.Lone as lone
 use Rattle.pixt.specs.Drav.{dravOf}
+use Rattle.drawing.specs.Array.{part, vAfter, destStart, srcStart, drawingOf}
+use Rattle.drawing.specs.Refusal.{refusalOf}
+use Rattle.drawing.specs.Refusal as drawing
+use Rattle.drawing.specs.Draw.{outcomeAt, outcome}
 use Rattle.figures.specs.Figures.{Figures}
 
 pub figures : Figures
-unfolding bitOf bitAt number refusal register fieldRead caseOf stepped any first anyPair refused latest lookup fetched operations processed pixelOf result pixelAfter withPixel wordAfter xyAddress badXYPitch common clipped addressOf reaches leavesMemory xyDestination lone.refusal dravOf
+unfolding bitOf bitAt number refusal register fieldRead caseOf stepped any first anyPair refused latest lookup fetched operations processed pixelOf result pixelAfter withPixel wordAfter xyAddress badXYPitch common clipped addressOf reaches leavesMemory xyDestination lone.refusal dravOf part vAfter destStart srcStart drawingOf refusalOf drawing.refusal outcomeAt outcome
 figures =
     record {
       field = refl;
@@ -35,6 +39,8 @@ figures =
       clip-start = refl;
       clip-enough = refl;
       clip-short = refl;
+      fill = refl;
+      fill-short = refl;
       seed = refl;
       drav = refl;
       fetches = refl;

@@ -24,6 +24,9 @@ use Rattle.geometry.specs.declared.Clipped.{Clipped}
 use Rattle.settings.specs.declared.Settings.{Settings}
 use Rattle.pixt.specs.Lone.{xyDestination}
 use Rattle.pixt.specs.Drav.{dravOf}
+use Rattle.drawing.specs.Refusal.{refusal}
+use Rattle.drawing.specs.Draw.{outcome}
+use Rattle.drawing.specs.declared.Operation.the-variants.{FillXY}
 
 -- the kinds of a run of fetches with CD 0, each over the state that the one before handed back
 abbrev pub kinds : Cache → List ℕ → List Kind
@@ -56,6 +59,25 @@ windowed =
       pmask = 0;
     }
 
+-- FILL XY of that array through that window
+abbrev pub filling : Settings
+filling =
+    record {
+      saddr = 0;
+      sptch = 0;
+      daddr = 0x004400E4;
+      dptch = 0x800;
+      offset = 0;
+      wstart = 0x004900EB;
+      wend = 0x005F0140;
+      dydx = 0x0014003C;
+      color0 = 0;
+      color1 = 0;
+      control = 0xC0;
+      psize = 4;
+      pmask = 0;
+    }
+
 pub record Figures : Type 0 where
   -- size 8 at address 12 over words F000h, 000Ah reads AFh, signed FFFFFFAFh; case F
   pub field : fieldRead (0xF000 ∷ 0x000A ∷ []) 12 8 false ≡ record { answer = 0; value = 0xAF }
@@ -77,6 +99,10 @@ pub record Figures : Type 0 where
   pub clip-start : xyAddress 0 0x800 4 (kept array drawn .x) (kept array drawn .y) ≡ 0x24BAC
   pub clip-enough : leavesMemory 11208 0x24BAC 53 15 0x800 4 ≡ false
   pub clip-short : leavesMemory 11207 0x24BAC 53 15 0x800 4 ≡ true
+  -- as a FILL XY: 795 pixels, V=1, DADDR at the end 2C3ACh; with 11,207 words it is 17
+  pub fill : outcome FillXY filling 0 false 795 11208
+      ≡ record { answer = 0; place = 795; visited = 795; v = true; request = false; saddr = 0; daddr = 0x2C3AC; dydx = 0x0014003C; settings = filling }
+  pub fill-short : refusal FillXY filling 0 11207 ≡ 17
   -- seed 1: first words 2041h, 4082h, 0, 0
   pub seed : image 4 1 ≡ 0x2041 ∷ 0x4082 ∷ 0 ∷ 0 ∷ []
   -- DRAV from 0000FFFFh with step 1, W=3, window from 0,0: not drawn, V=1, new point 0

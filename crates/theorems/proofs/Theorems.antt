@@ -11,7 +11,9 @@ use Rattle.cache.proofs.FetchLaws as cache
 use Rattle.pixel.proofs.Footprint as pixel
 use Rattle.geometry.proofs.WindowLaws as window
 use Rattle.geometry.proofs.WalkLaws as walk
-use Rattle.theorems.specs.Theorems.{BitsDecide, ChangedDecides, ReadBack, WriteFrame, WriteRefused, WriteBack, PastEnd, OneCase, FetchAccepted, RefusedExactly, PixelFrame, PixelDepends, KeptIsSeen, SeenIsKept, WalkInside, SeedsDiffer}
+use Rattle.slices.proofs.CallsAgree as calls
+use Rattle.slices.proofs.Demand3 as slices
+use Rattle.theorems.specs.Theorems.{BitsDecide, ChangedDecides, ReadBack, WriteFrame, WriteRefused, WriteBack, PastEnd, OneCase, FetchAccepted, RefusedExactly, PixelFrame, PixelDepends, KeptIsSeen, SeenIsKept, WalkInside, SeedsDiffer, TwoDrawings, Stopped, PublicCalls}
 
 pub bits-decide : BitsDecide
 bits-decide n m m′ g g′ e = memory.memory-ext g g′ e
@@ -62,3 +64,12 @@ walk-inside words start cols rows pitch step e =
 
 pub seeds-differ : SeedsDiffer
 seeds-differ = image.image-inj
+
+pub two-drawings : TwoDrawings
+two-drawings = slices.demand3
+
+pub stopped : Stopped
+stopped = slices.stopped-anywhere
+
+pub public-calls : PublicCalls
+public-calls = calls.calls-agree

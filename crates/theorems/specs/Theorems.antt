@@ -22,6 +22,8 @@ use Rattle.geometry.specs.Kept.{Pixel, Seen, kept}
 use Rattle.geometry.specs.Walk.{addressOf, leavesMemory}
 use Rattle.geometry.specs.declared.Rectangle.{Rectangle}
 use Rattle.geometry.specs.declared.Window.{Window}
+use Rattle.slices.specs.Slices.{Job, SameCall}
+use Rattle.slices.specs.Demand3.{Demand3, StoppedAnywhere}
 
 -- ---- memory
 
@@ -118,3 +120,18 @@ WalkInside =
 -- It says nothing of memories of fewer words.
 abbrev pub SeedsDiffer : Type 0
 SeedsDiffer = (x y n : ℕ) → x < 2 ^ 64 → y < 2 ^ 64 → 4 ≤ n → image n x ≡ image n y → x ≡ y
+
+-- ---- drawings in slices (demand 3); the statements are in slices/specs/Demand3.antt, over the public call's own definitions
+
+-- Two accepted drawings whose bits do not meet, cut into slices with any budgets in any alternation, with refused calls anywhere, give,
+-- once both are done, the memory, V, request and registers of the first whole then the second, and of the second whole then the first.
+abbrev pub TwoDrawings : Type 0
+TwoDrawings = Demand3
+
+-- A list of slices that stops anywhere has, in each drawing's writable bits, what that drawing alone would have at its place.
+abbrev pub Stopped : Type 0
+Stopped = StoppedAnywhere
+
+-- The calls that these two speak of are the public ones: each hands back and leaves what `drawing::draw` does.
+abbrev pub PublicCalls : Type 0
+PublicCalls = (j : Job) (k b : ℕ) (v : Bool) (m : List ℕ) → SameCall j k b v m

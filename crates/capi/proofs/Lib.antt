@@ -1,0 +1,2 @@
+mod OutLaws
+mod PixelsLaws

@@ -1,0 +1,163 @@
+/* The C interface of Buckethare, a proved model of the drawing side of the TMS34010.
+
+   Every function is proved to meet its contract in crates/capi/src, for all arguments. No
+   function allocates, keeps anything between calls, or touches memory beyond the arrays that it is
+   passed. An array is passed as a pointer and its length in elements. The pointer may not be null,
+   also where the length is 0, and the arrays of one call may not overlap.
+
+   The answer of a call is 0, or the number of the refusal that applies:
+      9  an array is too short, a mode is none, or a number is too large for its place
+     10  the memory is empty or above 1,048,576 words
+     11  PSIZE isn't 1, 2, 4, 8 or 16
+     12  PP (CONTROL bits 10-14) is above 21, or PBH (bit 8) or PBV (bit 9) is 1
+     13  the pixel is XY, and DPTCH isn't a power of two of at least 16
+     14  W (CONTROL bits 6-7) isn't 0, the destination is XY, and the window has a negative
+         coordinate or a start beyond its end
+     16  there is a pixel to draw or read, and its X or Y is negative, or its linear address isn't a
+         multiple of PSIZE
+     17  some bit of the field, or the pixel that would be drawn or read, has an address of
+         16 x words or more
+     18  the field size is outside 1 to 32
+     19  the numbers are no cache state
+   The lowest number that applies is given, but a field call checks 10, 18, 17 in that order. A call
+   that answers 9 changes nothing. With another refusal the results are 0, but for bh_fetch, V and
+   the point of bh_drav, and the memory or the cache state stays. An output array that is longer
+   than asked keeps its further elements.
+
+   A memory is a run of 16-bit words; bit address a is bit a mod 16 of word a / 16. */
+#ifndef BUCKETHARE_H
+#define BUCKETHARE_H
+
+#include <stddef.h>
+#include <stdint.h>
+
+#ifdef __cplusplus
+extern "C" {
+#endif
+
+#define BH_DONE 0
+#define BH_SHORT 9
+#define BH_NO_MEMORY 10
+#define BH_BAD_PIXEL_SIZE 11
+#define BH_BAD_CONTROL 12
+#define BH_BAD_PITCH 13
+#define BH_BAD_WINDOW 14
+#define BH_BAD_START 16
+#define BH_PAST_END 17
+#define BH_BAD_SIZE 18
+#define BH_NO_CACHE 19
+
+/* ---- Fields ---- */
+
+/* Reads the field of `size` bits at bit address `address` into out[0], zero extended, or sign
+   extended where is_signed isn't 0. The memory stays. Answers 0, 9 (out is empty), 10, 17 or 18. */
+uint32_t bh_field_read(uint16_t *memory, size_t words, uint32_t address, uint32_t size,
+                       uint32_t is_signed, uint32_t *out, size_t out_length);
+
+/* Writes the low `size` bits of value to the field, and changes no other bit. Answers 0, 10, 17
+   or 18. */
+uint32_t bh_field_write(uint16_t *memory, size_t words, uint32_t address, uint32_t size,
+                        uint32_t value);
+
+/* Memory cycles of a move of the field: out[0] of a read, out[1] of a write. Answers 0, 9 (out has
+   less than 2 elements) or 18. */
+uint32_t bh_field_cycles(uint32_t address, uint32_t size, uint32_t *out, size_t out_length);
+
+#define BH_INDIRECT 0
+#define BH_POSTINCREMENT 1
+#define BH_PREDECREMENT 2
+
+/* Machine states of MOVE memory to register into out[0]. is_signed isn't 0 for sign extension,
+   is_cached isn't 0 where the instruction is in cache. Answers 0, 9 (out is empty, or mode is none
+   of the three) or 18. */
+uint32_t bh_move_states(uint32_t address, uint32_t size, uint32_t mode, uint32_t is_signed,
+                        uint32_t is_cached, uint32_t *out, size_t out_length);
+
+/* ---- Single pixels ---- */
+
+/* The word after its pixel of psize bits at bit address `address` is drawn from s, into out[0].
+   Only the address's place in the word counts, and only the low psize bits of s. pp is the pixel
+   operation, 0 to 21, t isn't 0 for transparency, and pmask is the plane mask of the whole word.
+   A psize that is no pixel size, an address that isn't a multiple of it, or a pp above 21 isn't
+   refused: what they give is in the contract. Answers 0, or 9 (out is empty, or one of pp, psize,
+   pmask, s and word is above 65535). */
+uint32_t bh_word_after(uint32_t pp, uint32_t t, uint32_t psize, uint32_t pmask, uint32_t address,
+                       uint32_t s, uint32_t word, uint32_t *out, size_t out_length);
+
+/* The settings are 13 numbers, in this order: SADDR, SPTCH, DADDR, DPTCH, OFFSET, WSTART, WEND,
+   DYDX, COLOR0, COLOR1, CONTROL, PSIZE, PMASK. The last three are at most 65535. An XY address, a
+   point, a step, WSTART and WEND have X in the low and Y in the high 16 bits. */
+#define BH_SETTINGS 13
+
+/* The results of PIXT and DRAV are four numbers: pixels visited (0 or 1), V (0 or 1), window
+   violation request (0 or 1), and one that each call names. */
+#define BH_PIXEL_RESULTS 4
+
+/* What the five calls below share. v is V before the call: 0, or anything else for 1. A refused
+   call hands it back. The settings stay. Each answers 9 where there are less than 13 settings, one
+   of the last three is above 65535, or out has less than 4 elements. */
+
+/* PIXT register to memory: draws the low PSIZE bits of value at a linear address, or at an XY
+   address under the window. out[3] is 0. Answers 0, 9, 10, 11, 12, 16 or 17; at an XY address also
+   13 or 14. */
+uint32_t bh_pixt_to_linear(uint16_t *memory, size_t words, const uint32_t *settings,
+                           size_t settings_length, uint32_t value, uint32_t address, uint32_t v,
+                           uint32_t *out, size_t out_length);
+uint32_t bh_pixt_to_xy(uint16_t *memory, size_t words, const uint32_t *settings,
+                       size_t settings_length, uint32_t value, uint32_t xy, uint32_t v,
+                       uint32_t *out, size_t out_length);
+
+/* PIXT memory to register: out[3] is the pixel with masked bits 0, zero extended. The memory stays,
+   and V is kept. Answers 0, 9, 10, 11, 12, 16 or 17; at an XY address also 13. */
+uint32_t bh_pixt_from_linear(uint16_t *memory, size_t words, const uint32_t *settings,
+                             size_t settings_length, uint32_t address, uint32_t v, uint32_t *out,
+                             size_t out_length);
+uint32_t bh_pixt_from_xy(uint16_t *memory, size_t words, const uint32_t *settings,
+                         size_t settings_length, uint32_t xy, uint32_t v, uint32_t *out,
+                         size_t out_length);
+
+/* DRAV: draws the pixel at the point, under the window, from COLOR1 at the pixel's place in its
+   word. out[3] is the point with the step's X and Y added, each modulo 2^16, drawn or not; where
+   the call is refused, the point as it was. Answers 0, 9, 10, 11, 12, 13, 14, 16 or 17. */
+uint32_t bh_drav(uint16_t *memory, size_t words, const uint32_t *settings, size_t settings_length,
+                 uint32_t step, uint32_t point, uint32_t v, uint32_t *out, size_t out_length);
+
+/* ---- Instruction cache ---- */
+
+/* A cache state is 12 numbers: the start addresses of segments 0 to 3 (bits 9-31 of the bit
+   address, a 23-bit number); the present flags of segments 0 to 3, flag j as bit j; and the order,
+   the least recently used segment first. */
+#define BH_CACHE_NUMBERS 12
+
+/* A fresh cache, as the initial value of an array. */
+#define BH_CACHE_FRESH { 0, 0, 0, 0, 0, 0, 0, 0, 0, 1, 2, 3 }
+
+#define BH_HIT 0
+#define BH_SUBSEGMENT_MISS 1
+#define BH_SEGMENT_MISS 2
+#define BH_DISABLED 3
+#define BH_REFUSED 19
+
+/* Fetches at a bit address under CONTROL, of which only bit 15 (CD) counts. The kind, one of the
+   five above, goes to out[0], and the next state to the first 12 elements of state. With
+   BH_DISABLED and BH_REFUSED the state stays as it is. Bits above bit 7 of the flags are ignored,
+   and are 0 in a next state. Answers 0, 9 (out is empty, or state has less than 12 elements), or
+   19 with the kind BH_REFUSED. */
+uint32_t bh_fetch(uint32_t *state, size_t state_length, uint32_t address, uint16_t control,
+                  uint32_t *out, size_t out_length);
+
+/* ---- Images ---- */
+
+/* Fills the memory with the image of the seed. Answers 0 or 10. */
+uint32_t bh_fill_image(uint16_t *memory, size_t words, uint64_t seed);
+
+/* The number of bits in which two memories differ, into out[0]. A bit past the end of the shorter
+   one counts as 0. Answers 0, 9 (out is empty), or 10 where either isn't a memory. */
+uint32_t bh_changed(const uint16_t *before, size_t words_before, const uint16_t *after,
+                    size_t words_after, uint64_t *out, size_t out_length);
+
+#ifdef __cplusplus
+}
+#endif
+
+#endif
