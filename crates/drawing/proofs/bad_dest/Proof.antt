@@ -13,7 +13,7 @@ to-xy-requires : tie.Need-to-xy-requires
 to-xy-requires c κs = search needs
 
 returns : tie.Need-returns
-returns c = cc
+returns c = rw (c .to-xy .ensures, c .before .misaligned .ensures, c .before .before .negative-start .ensures)
 
 pub bad-dest-spec : {M : Type 1} → statement M
 bad-dest-spec =

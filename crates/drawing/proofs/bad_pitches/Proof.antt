@@ -22,7 +22,7 @@ copies-pixels-requires : tie.Need-copies-pixels-requires
 copies-pixels-requires c κs = search needs
 
 returns : tie.Need-returns
-returns c = cc
+returns c = rw (c .copies-pixels .ensures, c .before .source-of .ensures, c .before .before .bad-pitch2 .ensures, c .before .before .before .from-xy .ensures, c .before .before .before .before .bad-pitch .ensures, c .before .before .before .before .before .to-xy .ensures)
 
 pub bad-pitches-spec : {M : Type 1} → statement M
 bad-pitches-spec =

@@ -19,7 +19,7 @@ from-xy-requires : tie.Need-from-xy-requires
 from-xy-requires c κs = search needs
 
 returns : tie.Need-returns
-returns c = cc
+returns c = rw (c .from-xy .ensures, c .before .copies-pixels .ensures, c .before .before .source-of .ensures, c .before .before .before .misaligned .ensures, c .before .before .before .before .negative-start .ensures)
 
 pub bad-source-spec : {M : Type 1} → statement M
 bad-source-spec =

@@ -10,7 +10,7 @@ bad-source-requires : tie.Need-bad-source-requires
 bad-source-requires c κs = search needs
 
 returns : tie.Need-returns
-returns c = cc
+returns c = rw (c .bad-source .ensures, c .before .bad-dest .ensures)
 
 pub bad-start-spec : {M : Type 1} → statement M
 bad-start-spec = tie.close (tie.spec bad-dest-requires bad-source-requires returns)

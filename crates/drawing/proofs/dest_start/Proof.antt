@@ -25,7 +25,7 @@ xy-address-requires c κs = search needs
 
 returns : tie.Need-returns
 unfolding destStart
-returns c = rw (sym (c .before .before .before .before .before .before .to-xy .ensures), c .before .before .before .before .before .if1 .taken) (cc)
+returns c = rw (sym (c .before .before .before .before .before .before .to-xy .ensures), c .before .before .before .before .before .if1 .taken, c .xy-address .ensures, c .before .before .y-of .ensures, c .before .before .before .before .x-of .ensures)
 
 returns-2 : tie.Need-returns-2
 unfolding destStart

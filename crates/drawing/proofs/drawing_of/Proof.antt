@@ -27,7 +27,7 @@ cast-t12 c = search needs
 
 returns : tie.Need-returns
 unfolding drawingOf
-returns c = cc
+returns c = rw (c .before .before .transparency .ensures, c .before .before .before .processing .ensures, c .before .before .before .before .src-start .ensures, c .before .before .before .before .before .dest-start .ensures, c .before .before .before .before .before .before .source-of .ensures)
 
 pub drawing-of-spec : {M : Type 1} → statement M
 drawing-of-spec =

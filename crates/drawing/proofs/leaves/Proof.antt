@@ -31,7 +31,7 @@ copies-requires : tie.Need-copies-requires
 copies-requires c κs = search needs
 
 returns : tie.Need-returns
-returns c = cc
+returns c = rw (c .copies .ensures, c .before .leaves-memory2 .ensures, c .before .before .leaves-memory .ensures, c .before .before .before .before .step-of .ensures, c .before .before .before .before .before .source-of .ensures)
 
 pub leaves-spec : {M : Type 1} → statement M
 leaves-spec =

@@ -22,7 +22,7 @@ negative-requires-2 : tie.Need-negative-requires-2
 negative-requires-2 c κs = search needs
 
 returns : tie.Need-returns
-returns c = cc
+returns c = rw (c .negative2 .ensures, c .before .negative .ensures, c .before .before .before .y-of .ensures, c .before .before .before .before .before .x-of .ensures)
 
 pub negative-start-spec : {M : Type 1} → statement M
 negative-start-spec =

@@ -16,7 +16,7 @@ cast-t7 : tie.Need-cast-t7
 cast-t7 c = search needs
 
 returns : tie.Need-returns
-returns c = cc
+returns c = rw (c .before .before .y-of .ensures, c .before .before .before .x-of .ensures)
 
 pub rectangle-of-spec : {M : Type 1} → statement M
 rectangle-of-spec = tie.close (tie.spec x-of-requires y-of-requires cast-t5 cast-t7 returns)

@@ -25,7 +25,7 @@ xy-address-requires c κs = search needs
 
 returns : tie.Need-returns
 unfolding srcStart
-returns c = rw (sym (c .before .before .before .before .before .before .from-xy .ensures), c .before .before .before .before .before .if1 .taken) (cc)
+returns c = rw (sym (c .before .before .before .before .before .before .from-xy .ensures), c .before .before .before .before .before .if1 .taken, c .xy-address .ensures, c .before .before .y-of .ensures, c .before .before .before .before .x-of .ensures)
 
 source-of-requires : tie.Need-source-of-requires
 source-of-requires c κs = search needs
@@ -38,7 +38,7 @@ moved-requires c κs = search needs
 
 returns-2 : tie.Need-returns-2
 unfolding srcStart
-returns-2 c = rw (sym (c .before .before .before .before .from-xy .ensures), c .before .before .before .if1 .left) (cc)
+returns-2 c = rw (sym (c .before .before .before .before .from-xy .ensures), c .before .before .before .if1 .left, c .moved .ensures, c .before .step-of .ensures, c .before .before .source-of .ensures)
 
 pub src-start-spec : {M : Type 1} → statement M
 src-start-spec =

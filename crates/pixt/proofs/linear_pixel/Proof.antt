@@ -12,7 +12,7 @@ refusal-of-requires c κs = search needs
 
 returns : tie.Need-returns
 unfolding linearPixel
-returns c = cc
+returns c = rw (c .refusal-of .ensures, c .before .misaligned .ensures)
 
 pub linear-pixel-spec : {M : Type 1} → statement M
 linear-pixel-spec = tie.close (tie.spec misaligned-requires refusal-of-requires returns)

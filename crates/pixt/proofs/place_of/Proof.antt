@@ -13,7 +13,7 @@ xy-address-requires : tie.Need-xy-address-requires
 xy-address-requires c κs = search needs
 
 returns : tie.Need-returns
-returns c = cc
+returns c = rw (c .xy-address .ensures, c .before .y-of .ensures, c .before .before .x-of .ensures)
 
 pub place-of-spec : {M : Type 1} → statement M
 place-of-spec = tie.close (tie.spec x-of-requires y-of-requires xy-address-requires returns)

@@ -13,7 +13,7 @@ bad-windowing-requires : tie.Need-bad-windowing-requires
 bad-windowing-requires c κs = search needs
 
 returns : tie.Need-returns
-returns c = cc
+returns c = rw (c .bad-windowing .ensures, c .before .window-of .ensures, c .before .before .windowing .ensures)
 
 pub window-is-bad-spec : {M : Type 1} → statement M
 window-is-bad-spec =

@@ -19,7 +19,7 @@ clip-requires : tie.Need-clip-requires
 clip-requires c κs = search needs
 
 returns : tie.Need-returns
-returns c = cc
+returns c = rw (c .clip .ensures, c .before .window-of .ensures, c .before .before .windowing .ensures, c .before .before .before .y-of .ensures, c .before .before .before .before .x-of .ensures)
 
 pub windowed-spec : {M : Type 1} → statement M
 windowed-spec =

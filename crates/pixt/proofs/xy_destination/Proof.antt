@@ -24,7 +24,7 @@ refusal-of-requires c κs = search needs
 
 returns : tie.Need-returns
 unfolding xyDestination
-returns c = cc
+returns c = rw (c .refusal-of .ensures, c .before .bad-start .ensures, c .before .before .before .before .windowed .ensures, c .before .before .before .before .before .window-is-bad .ensures, c .before .before .before .before .before .before .bad-xy-pitch .ensures, c .before .before .before .before .before .before .before .place-of .ensures)
 
 pub xy-destination-spec : {M : Type 1} → statement M
 xy-destination-spec =

@@ -18,7 +18,7 @@ refusal-of-requires c κs = search needs
 
 returns : tie.Need-returns
 unfolding xySource
-returns c = cc
+returns c = rw (c .refusal-of .ensures, c .before .bad-start .ensures, c .before .before .bad-xy-pitch .ensures, c .before .before .before .place-of .ensures)
 
 pub xy-source-spec : {M : Type 1} → statement M
 xy-source-spec =
