@@ -1,0 +1,154 @@
+-- Laws of `specs/Table.antt` as the code goes through a table: the test of an axis, then the later axes. No contract cites this file.
+-- Assumes nothing.
+use mathlib.Core.Path.{_≡_, refl, sym, _∙_}
+use mathlib.Core.Bool.{Bool, true, false, true≢false, cond, not, _&&_, and-false}
+use mathlib.Core.List.{List}
+use Prim.Native.Nat.{ℕ, zero, suc, _+_, _-_, _*_, _/_, _%_, _^_, _<_, _≤_}
+use native.Mathlib.Nat.{mul-le-mul, mul-zero, mul-pos, mod-lt, div-lt-iff-lt-mul, pow-succ', pow-le-pow-right}
+use native.Mathlib.Omega.{arith}
+use borrow.Author.Tests.{not-true, not-false, ltb-true, leb-true, lt-leb}
+use lib.Dec.{ltb, leb, leb·suc-suc}
+use lib.ListN.{length, getD, set, take, drop, length-drop}
+use lib.Seq.{take-all, length-take-le, getD-take, getD-drop}
+use Rattle.points.specs.Axes.{count}
+use Rattle.points.specs.Points.{indices, assigned}
+use Rattle.points.specs.Table.{axisIn, axesIn, laterIn, holdsAxis, holds, countIn}
+
+-- A part of a slice from i on
+
+pub part-drop : (i : ℕ) (t : List ℕ) → take (length t - i) (drop i t) ≡ drop i t
+part-drop i t = take-all (length t - i) (drop i t) (omega (arith, length-drop i t))
+
+-- The test of an axis
+
+pub and-eq-true : (a b : Bool) → (a && b) ≡ true → (a ≡ true) × (b ≡ true)
+and-eq-true true b e = (refl, e)
+and-eq-true false b e = absurd (true≢false (sym e))
+
+pub record Held (t : List ℕ) : Type 0 where
+  pub named : getD t 0 0 < 14
+  pub some : 1 ≤ getD t 1 0
+  pub few : getD t 1 0 ≤ 64
+  pub whole : 2 + getD t 1 0 ≤ length t
+
+pub held : (t : List ℕ) → holdsAxis t ≡ true → Held t
+unfolding holdsAxis
+held t e =
+    let p = and-eq-true _ _ e in
+    let q = and-eq-true _ _ (p .0) in
+    let r = and-eq-true _ _ (q .0) in
+    record {
+      named = ltb-true _ _ (r .0);
+      some = leb-true _ _ (r .1);
+      few = leb-true _ _ (q .1);
+      whole = leb-true _ _ (p .1);
+    }
+
+-- from a call's answer and the branch after it
+pub held-of : {b : Bool} (t : List ℕ) → b ≡ holdsAxis t → not b ≡ false → holdsAxis t ≡ true
+held-of {b} t e n = sym e ∙ not-false b n
+
+pub not-held-of : {b : Bool} (t : List ℕ) → b ≡ holdsAxis t → not b ≡ true → holdsAxis t ≡ false
+not-held-of {b} t e n = sym e ∙ not-true b n
+
+pub holdsAxis-short : (t : List ℕ) → length t < 2 → false ≡ holdsAxis t
+unfolding holdsAxis
+holdsAxis-short t h = rw (lt-leb (2 + getD t 1 0) (length t) (omega arith)) (sym (and-false (ltb (getD t 0 0) 14 && leb 1 (getD t 1 0) && leb (getD t 1 0) 64)))
+
+pub leb-sub : (v l : ℕ) → 2 ≤ l → leb v (l - 2) ≡ leb (2 + v) l
+leb-sub v zero h = absurd (omega arith)
+leb-sub v (suc zero) h = absurd (omega arith)
+leb-sub v (suc (suc l)) h = rw (less l, more v, leb·suc-suc, leb·suc-suc)
+  where
+    less : (n : ℕ) → suc (suc n) - 2 ≡ n
+    less n = omega arith
+
+    more : (n : ℕ) → 2 + n ≡ suc (suc n)
+    more n = omega arith
+
+-- The axes, one after another
+
+suc-pred : (k : ℕ) → suc k - 1 ≡ k
+suc-pred k = omega arith
+
+length-values : (t : List ℕ) → Held t → length (axisIn t .values) ≡ getD t 1 0
+length-values t h = length-take-le (getD t 1 0) (drop 2 t) (omega (arith, h .whole, length-drop 2 t))
+
+module _ (t : List ℕ) where
+  pub countIn-none : (k : ℕ) → k ≡ 0 → 1 ≡ countIn k t
+  unfolding holds axesIn count
+  countIn-none k e = rw e
+
+  pub countIn-not : (k : ℕ) → (k ≡ 0 → ⊥) → holdsAxis t ≡ false → 0 ≡ countIn k t
+  unfolding holds
+  countIn-not zero n e = absurd (n refl)
+  countIn-not (suc k) n e = rw e
+
+  pub countIn-next : (k : ℕ) → (k ≡ 0 → ⊥) → holdsAxis t ≡ true → getD t 1 0 * countIn (k - 1) (laterIn t) ≡ countIn k t
+  unfolding holds axesIn count
+  countIn-next zero n e = absurd (n refl)
+  countIn-next (suc k) n e = rw (suc-pred k, e) (go (holds k (laterIn t)))
+    where
+      go : (b : Bool) → getD t 1 0 * cond b (count (axesIn k (laterIn t))) 0 ≡ cond b (length (axisIn t .values) * count (axesIn k (laterIn t))) 0
+      go true = rw (length-values t (held t e))
+      go false = mul-zero (getD t 1 0)
+
+  pub countIn-le : (k m : ℕ) → (k ≡ 0 → ⊥) → holdsAxis t ≡ true → m ≤ 64 ^ (k - 1) → getD t 1 0 * m ≤ 64 ^ k
+  countIn-le zero m n e h = absurd (n refl)
+  countIn-le (suc k) m n e h = rw (pow-succ' 64 k) (mul-le-mul (held t e .few) (rw (suc-pred k) at h))
+
+pub eight-fit : (k n : ℕ) → k ≤ 8 → n ≤ 64 ^ k → n < 2 ^ 64
+eight-fit k n h e = omega (arith, pow-le-pow-right {n = 64} (omega arith) {i = k} {j = 8} h)
+
+-- The decoding, one axis after another
+
+pub count-pos : (k : ℕ) (t : List ℕ) → holds k t ≡ true → 0 < count (axesIn k t)
+unfolding holds axesIn count
+count-pos zero t e = omega arith
+count-pos (suc k) t e =
+    let p = and-eq-true _ _ e in
+    mul-pos (rw (length-values t (held t (p .0))) (held t (p .0) .some)) (count-pos k (laterIn t) (p .1))
+
+-- what is known of point n of a table that has an axis and then j more
+pub record Decoding (j n : ℕ) (t : List ℕ) : Type 0 where
+  pub axis : Held t
+  pub later : holds j (laterIn t) ≡ true
+  pub counted : countIn j (laterIn t) ≡ count (axesIn j (laterIn t))
+  pub positive : 0 < count (axesIn j (laterIn t))
+  pub index : n / count (axesIn j (laterIn t)) < getD t 1 0
+  pub rest : n % count (axesIn j (laterIn t)) < count (axesIn j (laterIn t))
+
+pub decoding : (k n : ℕ) (t : List ℕ) → (k ≡ 0 → ⊥) → holds k t ≡ true → n < count (axesIn k t) → Decoding (k - 1) n t
+unfolding holds axesIn count
+decoding zero n t z e h = absurd (z refl)
+decoding (suc k) n t z e h =
+    let p = and-eq-true _ _ e in
+    let a = held t (p .0) in
+    let q = count-pos k (laterIn t) (p .1) in
+    rw (suc-pred k) (record {
+      axis = a;
+      later = p .1;
+      counted = rw (p .1);
+      positive = q;
+      index = div-lt-iff-lt-mul q .1 (rw (length-values t a) at h);
+      rest = mod-lt n q;
+    })
+
+pub assigned-none : (k n : ℕ) (t vs : List ℕ) → k ≡ 0 → vs ≡ assigned (axesIn k t) (indices (axesIn k t) n) vs
+unfolding axesIn indices assigned
+assigned-none k n t vs e = rw e
+
+value-at : (j n : ℕ) (t : List ℕ) → Decoding j n t
+    → let q = n / count (axesIn j (laterIn t)) in getD t (2 + q) 0 ≡ getD (axisIn t .values) q 0
+value-at j n t d =
+    let q = n / count (axesIn j (laterIn t)) in
+    sym (getD-take (getD t 1 0) (drop 2 t) q 0 (d .index) ∙ getD-drop 2 t q 0)
+
+-- the first axis is assigned, then the later ones
+pub assigned-next : (k n : ℕ) (t vs : List ℕ) → (k ≡ 0 → ⊥) → Decoding (k - 1) n t
+    → let later = axesIn (k - 1) (laterIn t) in
+    assigned later (indices later (n % count later)) (set vs (getD t 0 0) (getD t (2 + n / count later) 0))
+    ≡ assigned (axesIn k t) (indices (axesIn k t) n) vs
+unfolding axesIn indices assigned
+assigned-next zero n t vs z d = absurd (z refl)
+assigned-next (suc k) n t vs z d = rw (value-at (suc k - 1) n t d, suc-pred k)

@@ -1,0 +1,64 @@
+-- Axes as a table of numbers, which a plan's reader fills and the points are read from: of each axis its name, its length and its values.
+-- The scope knows nothing of it. Assumes nothing.
+use mathlib.Core.Bool.{Bool, true, cond, _&&_}
+use mathlib.Core.List.{List, [], _∷_, _++_}
+use Prim.Native.Nat.{ℕ, zero, suc, _+_}
+use lib.Dec.{ltb, leb, eqb}
+use lib.ListN.{length, getD, take, drop}
+use Rattle.points.specs.Axes.{Axis, defaults, count}
+use Rattle.points.specs.Points.{experiment, refusal}
+
+-- the table of some axes
+unfoldable pub tableOf : List Axis → List ℕ
+tableOf [] = []
+tableOf (a ∷ later) = a .name ∷ length (a .values) ∷ (a .values ++ tableOf later)
+
+-- what follows the table's first axis
+abbrev pub laterIn : List ℕ → List ℕ
+laterIn t = drop (2 + getD t 1 0) t
+
+-- the first axis of a table
+abbrev pub axisIn : List ℕ → Axis
+axisIn t = record { name = getD t 0 0; values = take (getD t 1 0) (drop 2 t) }
+
+-- the first k axes of a table
+unfoldable pub axesIn : ℕ → List ℕ → List Axis
+axesIn zero t = []
+axesIn (suc k) t = axisIn t ∷ axesIn k (laterIn t)
+
+-- does a table start with an axis: a name, and 1 to 64 values?
+unfoldable pub holdsAxis : List ℕ → Bool
+holdsAxis t = ltb (getD t 0 0) 14 && leb 1 (getD t 1 0) && leb (getD t 1 0) 64 && leb (2 + getD t 1 0) (length t)
+
+-- are the first k axes there?
+unfoldable pub holds : ℕ → List ℕ → Bool
+holds zero t = true
+holds (suc k) t = holdsAxis t && holds k (laterIn t)
+
+-- the count of the first k axes; 0 where they are not there
+abbrev pub countIn : ℕ → List ℕ → ℕ
+countIn k t = cond (holds k t) (count (axesIn k t)) 0
+
+-- Of the first k axes of a table, at most 8
+
+-- the count of points
+abbrev pub pointsIn : ℕ → List ℕ → ℕ
+pointsIn k t = cond (leb k 8 && holds k t) (count (axesIn k t)) 0
+
+-- 24 also where the table holds no such axes, or more than 8 are asked for
+abbrev pub refusalIn : ℕ → List ℕ → ℕ → ℕ
+refusalIn k t n = cond (leb k 8 && holds k t) (refusal (axesIn k t) n) 24
+
+-- A point's experiment in a lent list, which may be longer than 14
+
+-- 9: the list is too short
+abbrev pub answerFor : ℕ → List ℕ → ℕ → List ℕ → ℕ
+answerFor k t n out = cond (ltb (length out) 14) 9 (refusalIn k t n)
+
+-- the first fourteen elements are the experiment and the others stay; with a number other than 0 all stay
+abbrev pub outAfter : ℕ → List ℕ → ℕ → List ℕ → List ℕ
+outAfter k t n out = cond (eqb (answerFor k t n out) 0) (experiment (axesIn k t) n ++ drop 14 out) out
+
+-- before the axes are assigned
+abbrev pub withDefaults : List ℕ → List ℕ
+withDefaults out = defaults ++ drop 14 out

@@ -1,0 +1,96 @@
+// Points of a plan, read from a table of its axes: of each axis its name, its length and its values. No public function has a requires.
+ghost use mathlib.Core.Path.{_≡_};
+ghost use mathlib.Core.Bool.{true};
+ghost use Prim.Native.Nat.{_^_, _<_, _≤_};
+ghost use lib.ListN.{length};
+ghost use Rattle.points.specs.Axes.{count};
+ghost use Rattle.points.specs.Points.{indices, assigned};
+ghost use Rattle.points.specs.Table.{axesIn, holdsAxis, holds, countIn, pointsIn, withDefaults, answerFor, outAfter};
+
+// Does the table start with an axis: a name, and 1 to 64 values?
+fn holds_axis(table: &[u64]) -> bool
+    ensures { λ r. ⌜ r ≡ holdsAxis (now (table .entry)) ⌝ }
+{
+    let len = table.len() as u64;
+    if len < 2 {
+        return false;
+    }
+    let name = table[0];
+    let values = table[1];
+    (name < 14) & (1 <= values) & (values <= 64) & (values <= len - 2)
+}
+
+// The product of the lengths of the first axes; 0 where the table does not hold them.
+fn counted(table: &[u64], axes: u64) -> u64
+    requires { ⌜ axes ≤ 8 ⌝ }
+    ensures { λ r. ⌜ (r ≡ countIn axes (now (table .entry))) × (r ≤ 64 ^ axes) ⌝ }
+{
+    if axes == 0 {
+        return 1;
+    }
+    if !holds_axis(table) {
+        return 0;
+    }
+    let values = table[1];
+    let start = 2 + values as usize;
+    let later = counted(&table[start..], axes - 1);
+    values * later
+}
+
+// The count of points; 0 where the table does not hold the axes, or more than 8 are asked for.
+pub fn points(table: &[u64], axes: u64) -> u64
+    ensures { λ r. ⌜ r ≡ pointsIn axes (now (table .entry)) ⌝ }
+{
+    if axes > 8 {
+        return 0;
+    }
+    counted(table, axes)
+}
+
+// Gives each axis's name the value at its index: the first index is the number divided by the count of the later axes, the rest of the
+// number is decoded over these.
+fn decode(table: &[u64], axes: u64, number: u64, out: &mut [u64])
+    requires { ⌜ (axes ≤ 8) × (holds axes (now table) ≡ true) × (number < count (axesIn axes (now table))) × (14 ≤ length (now out)) ⌝ }
+    ensures { λ _. ⌜ now (out .exit) ≡ assigned (axesIn axes (now (table .entry))) (indices (axesIn axes (now (table .entry))) number) (now (out .entry)) ⌝ }
+{
+    if axes == 0 {
+        return;
+    }
+    let name = table[0] as usize;
+    let start = 2 + table[1] as usize;
+    let later = &table[start..];
+    let count = counted(later, axes - 1);
+    let index = 2 + (number / count) as usize;
+    out[name] = table[index];
+    decode(later, axes - 1, number % count, out);
+}
+
+// Sets the fourteen values to their defaults: 0, but PSIZE 16.
+fn set_defaults(out: &mut [u64])
+    requires { ⌜ 14 ≤ length (now out) ⌝ }
+    ensures { λ _. ⌜ now (out .exit) ≡ withDefaults (now (out .entry)) ⌝ }
+{
+    let mut i = 0;
+    while i < 14 {
+        out[i] = 0;
+        i += 1;
+    }
+    out[11] = 16;
+}
+
+// The fourteen values of a point. Answers 0, or 24 where the number is not below the count, or 9 where out has fewer than 14 elements;
+// with 24 and 9 out stays as lent.
+pub fn experiment(table: &[u64], axes: u64, number: u64, out: &mut [u64]) -> u32
+    ensures { λ r. ⌜ (r ≡ answerFor axes (now (table .entry)) number (now (out .entry))) × (now (out .exit) ≡ outAfter axes (now (table .entry)) number (now (out .entry))) ⌝ }
+{
+    if out.len() < 14 {
+        return 9;
+    }
+    let count = points(table, axes);
+    if number >= count {
+        return 24;
+    }
+    set_defaults(out);
+    decode(table, axes, number, out);
+    0
+}
