@@ -13,6 +13,20 @@ pub fn step(x: u64) -> u64
     b ^ (b << 17)
 }
 
+// The generator, advanced in place at each draw.
+pub struct Generator {
+    pub state: u64,
+}
+
+// One draw: advances the generator in place by a step, and answers its new state.
+pub fn draw(g: &mut Generator) -> u64
+    ensures { λ r. ⌜ (r ≡ stepped (now (g .entry) .state)) × (now (g .exit) .state ≡ stepped (now (g .entry) .state)) ⌝ }
+{
+    let next = step(g.state);
+    g.state = next;
+    next
+}
+
 // Fills the memory with the image of the seed, and answers 0 or the refusal's number.
 pub fn fill_image(memory: &mut [u16], seed: u64) -> u32
     ensures { λ r. ⌜ (r ≡ refusal (length (now (memory .entry)))) × (now (memory .exit) ≡ imaged (now (memory .entry)) seed) ⌝ }
@@ -71,9 +85,11 @@ impl Words {
     }
 }
 
-// The state after one draw, which is what the draw gives. Nothing else advances the generator.
-fn drawn(state: u64) -> u64
-    ensures { λ r. ⌜ r ≡ stepped state ⌝ }
+// One draw with plain parameters: a generator at the state x is made, lent, and read.
+fn drawn(x: u64) -> u64
+    ensures { λ r. ⌜ r ≡ stepped x ⌝ }
 {
-    step(state)
+    let mut g = Generator { state: x };
+    draw(&mut g);
+    g.state
 }

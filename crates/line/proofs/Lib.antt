@@ -1,0 +1,4 @@
+pub mod FieldsLaws
+pub mod LineLaws
+pub mod TestsLaws
+pub mod WordsLaws

@@ -1,0 +1,276 @@
+// The three kinds of plan line, each over the line's bytes.
+ghost use mathlib.Core.Path.{_≡_};
+ghost use mathlib.Core.List.{[], map};
+ghost use Prim.Native.Nat.{_+_, _≤_};
+ghost use lib.Dec.{eqb};
+ghost use lib.ListN.{length, getD};
+ghost use Rattle.lists.specs.Search.{any, anyPair, first};
+ghost use Rattle.text.specs.Text.{fieldsOf, same};
+ghost use Rattle.points.specs.Axes.{limit};
+ghost use Rattle.line.specs.Fields.{fieldsFrom, behind, thirdAt};
+ghost use Rattle.line.specs.Tests.{isPair, passes};
+ghost use Rattle.line.specs.Line.{fieldValue, noNumber, sizeOf, memoryOf, drawOf, nameOf, valuesOf, badForm, badName, badValues, tooMany, refusal, storedAt};
+use text::Number;
+
+// The words of a `memory` line: 0 for any other line.
+pub fn memory_of(line: &[u8]) -> u64
+    ensures { λ r. ⌜ r ≡ memoryOf (fieldsOf (now (line .entry))) ⌝ }
+{
+    if !is_pair(line, b"memory") {
+        return 0;
+    }
+    size_of(field_value(second(line)))
+}
+
+// The number of a `draw` line's drawing: 8 for any other line.
+pub fn draw_of(line: &[u8]) -> u64
+    ensures { λ r. ⌜ r ≡ drawOf (fieldsOf (now (line .entry))) ⌝ }
+{
+    if !is_pair(line, b"draw") {
+        return 8;
+    }
+    index_of(
+        b"FILL L\tFILL XY\tPIXBLT L,L\tPIXBLT L,XY\tPIXBLT XY,L\tPIXBLT XY,XY\tPIXBLT B,L\tPIXBLT B,XY",
+        second(line),
+    )
+}
+
+// The number of an `axis` line's name: 14 where it is unknown.
+pub fn name_of(line: &[u8]) -> u64
+    ensures { λ r. ⌜ r ≡ nameOf (fieldsOf (now (line .entry))) ⌝ }
+{
+    index_of(
+        b"SADDR\tSPTCH\tDADDR\tDPTCH\tOFFSET\tWSTART\tWEND\tDYDX\tCOLOR0\tCOLOR1\tCONTROL\tPSIZE\tPMASK\tSEED",
+        second(line),
+    )
+}
+
+// How many values an `axis` line has.
+pub fn value_count(line: &[u8]) -> u64
+    ensures { λ r. ⌜ r ≡ length (valuesOf (fieldsOf (now (line .entry)))) ⌝ }
+{
+    count(line, third_at(line))
+}
+
+// The refusal of an `axis` line after so many axes, where its name came before or not; 0 where it is good.
+pub fn axis_refusal(line: &[u8], came: bool, axes: u64) -> u32
+    ensures { λ r. ⌜ r ≡ refusal (λ _. came) axes (fieldsOf (now (line .entry))) ⌝ }
+{
+    if bad_form(line) {
+        return 20;
+    }
+    if bad_name(line, came) {
+        return 21;
+    }
+    if bad_values(line) {
+        return 22;
+    }
+    if too_many(line, axes) {
+        return 23;
+    }
+    0
+}
+
+// Stores the values of an `axis` line from an index on, as far as there is room.
+pub fn store_values(line: &[u8], table: &mut [u64], at: usize)
+    ensures { λ r. ⌜ now (table .exit) ≡ storedAt at (valuesOf (fieldsOf (now (line .entry)))) (now (table .entry)) ⌝ }
+{
+    let mut p = third_at(line);
+    let mut i = at;
+    while i < table.len() {
+        if line.len() < p {
+            return;
+        }
+        let end = text::part_end(line, p, 9);
+        table[i] = field_value(&line[p..end]);
+        i += 1;
+        p = end + 1;
+    }
+}
+
+// A memory's size: 0 for a number above 32768.
+fn size_of(n: u64) -> u64
+    ensures { λ r. ⌜ r ≡ sizeOf n ⌝ }
+{
+    if n <= 32768 {
+        return n;
+    }
+    0
+}
+
+// Are there two fields, the first of which is this word?
+fn is_pair(line: &[u8], word: &[u8]) -> bool
+    ensures { λ r. ⌜ r ≡ isPair (now (word .entry)) (fieldsOf (now (line .entry))) ⌝ }
+{
+    (count(line, 0) == 2) & text::same(text::part(line, 0, 9), word)
+}
+
+// The second field: empty where there is none.
+fn second(line: &[u8]) -> &[u8]
+    ensures { λ r. ⌜ now r ≡ getD (fieldsOf (now (line .entry))) 1 [] ⌝ }
+{
+    text::part(line, behind(line, 0), 9)
+}
+
+// The place of the third field: past the line's end where there is none.
+fn third_at(line: &[u8]) -> usize
+    ensures { λ r. ⌜ r ≡ thirdAt (now (line .entry)) ⌝ }
+{
+    behind(line, behind(line, 0))
+}
+
+// The place behind the field at a place.
+fn behind(line: &[u8], p: usize) -> usize
+    requires { ⌜ p ≤ length (now line) + 1 ⌝ }
+    ensures { λ r. ⌜ r ≡ behind (now (line .entry)) p ⌝ }
+{
+    text::part_end(line, p, 9) + 1
+}
+
+// 20: another form, an empty name, a value that is no number.
+fn bad_form(line: &[u8]) -> bool
+    ensures { λ r. ⌜ r ≡ badForm (fieldsOf (now (line .entry))) ⌝ }
+{
+    let values = third_at(line);
+    if line.len() < values {
+        return true;
+    }
+    let other = !text::same(text::part(line, 0, 9), b"axis");
+    let empty = second(line).len() == 0;
+    other | empty | any_field(line, values, Test::NoNumber)
+}
+
+// 21: the name is unknown or came before.
+fn bad_name(line: &[u8], came: bool) -> bool
+    ensures { λ r. ⌜ r ≡ badName (λ _. came) (nameOf (fieldsOf (now (line .entry)))) ⌝ }
+{
+    (14 <= name_of(line)) | came
+}
+
+// 22: a value is too large for its name, or stands twice on its axis.
+fn bad_values(line: &[u8]) -> bool
+    ensures { λ r. ⌜ r ≡ badValues (nameOf (fieldsOf (now (line .entry)))) (valuesOf (fieldsOf (now (line .entry)))) ⌝ }
+{
+    let values = third_at(line);
+    let most = greatest(name_of(line));
+    any_field(line, values, Test::Above(most)) | any_twice(line, values)
+}
+
+// 23: more than 8 axes, or more than 64 values on one.
+fn too_many(line: &[u8], axes: u64) -> bool
+    ensures { λ r. ⌜ r ≡ tooMany axes (valuesOf (fieldsOf (now (line .entry)))) ⌝ }
+{
+    (8 <= axes) | (64 < value_count(line))
+}
+
+// The greatest value of a name: one less than its limit.
+fn greatest(name: u64) -> u64
+    ensures { λ r. ⌜ r + 1 ≡ limit name ⌝ }
+{
+    if name < 10 {
+        return 4294967295;
+    }
+    if name < 13 {
+        return 65535;
+    }
+    18446744073709551615
+}
+
+// A test of a field.
+enum Test {
+    NoNumber,
+    Above(u64),
+    Equal(u64),
+}
+
+// Does a field pass a test?
+fn passes(field: &[u8], test: Test) -> bool
+    ensures { λ r. ⌜ r ≡ passes test (now (field .entry)) ⌝ }
+{
+    match test {
+        Test::NoNumber => no_number(field),
+        Test::Above(v) => v < field_value(field),
+        Test::Equal(v) => v == field_value(field),
+    }
+}
+
+// Does some field from a place on pass a test?
+fn any_field(line: &[u8], from: usize, test: Test) -> bool
+    ensures { λ r. ⌜ r ≡ any (passes test) (fieldsFrom (now (line .entry)) from) ⌝ }
+{
+    let mut p = from;
+    while p <= line.len() {
+        let end = text::part_end(line, p, 9);
+        if passes(&line[p..end], test) {
+            return true;
+        }
+        p = end + 1;
+    }
+    false
+}
+
+// Does some value stand twice among those from a place on?
+fn any_twice(line: &[u8], from: usize) -> bool
+    ensures { λ r. ⌜ r ≡ anyPair eqb (map fieldValue (fieldsFrom (now (line .entry)) from)) ⌝ }
+{
+    let mut p = from;
+    while p <= line.len() {
+        let end = text::part_end(line, p, 9);
+        let v = field_value(&line[p..end]);
+        p = end + 1;
+        if any_field(line, p, Test::Equal(v)) {
+            return true;
+        }
+    }
+    false
+}
+
+// How many fields there are from a place on.
+fn count(line: &[u8], from: usize) -> u64
+    ensures { λ r. ⌜ r ≡ length (fieldsFrom (now (line .entry)) from) ⌝ }
+{
+    let mut n: u64 = 0;
+    let mut p = from;
+    while p <= line.len() {
+        n += 1;
+        p = text::part_end(line, p, 9) + 1;
+    }
+    n
+}
+
+// Which field of a list, from 0, is the same as this word: as many as there are where none is.
+fn index_of(list: &[u8], word: &[u8]) -> u64
+    ensures { λ r. ⌜ r ≡ first (same (now (word .entry))) (fieldsOf (now (list .entry))) ⌝ }
+{
+    let mut n: u64 = 0;
+    let mut p = 0;
+    while p <= list.len() {
+        let end = text::part_end(list, p, 9);
+        if text::same(word, &list[p..end]) {
+            return n;
+        }
+        n += 1;
+        p = end + 1;
+    }
+    n
+}
+
+// A field as a number: 0 where it is none.
+fn field_value(field: &[u8]) -> u64
+    ensures { λ r. ⌜ r ≡ fieldValue (now (field .entry)) ⌝ }
+{
+    match text::parse(field) {
+        Number::Value(v) => v,
+        Number::Bad => 0,
+    }
+}
+
+// Is a field no number?
+fn no_number(field: &[u8]) -> bool
+    ensures { λ r. ⌜ r ≡ noNumber (now (field .entry)) ⌝ }
+{
+    match text::parse(field) {
+        Number::Value(_) => false,
+        Number::Bad => true,
+    }
+}

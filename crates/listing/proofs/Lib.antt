@@ -1,0 +1,4 @@
+pub mod ListingLaws
+pub mod DigitsLaws
+pub mod PlacedLaws
+mod LoopLaws

@@ -1,0 +1,49 @@
+-- Lines of a listing as bytes (the scope, "Plans and images"): decimal numbers with tabs between, ended by byte 10. Assumes nothing.
+use mathlib.Core.Bool.{cond}
+use mathlib.Core.List.{List, [], _∷_, _++_}
+use Prim.Native.Nat.{ℕ, zero, suc, _+_, _/_, _%_}
+use lib.Dec.{ltb, leb}
+use lib.ListN.{length, take, drop}
+
+-- a number's decimal digits, the most significant first, at most k of them; 20 are enough below 2^64
+unfoldable pub digits : ℕ → ℕ → List ℕ
+digits zero n = []
+digits (suc k) n = cond (ltb n 10) ((48 + n) ∷ []) (digits k (n / 10) ++ ((48 + n % 10) ∷ []))
+
+abbrev pub decimal : ℕ → List ℕ
+decimal n = digits 20 n
+
+-- numbers with tabs between, and a line's end
+unfoldable pub numbersLine : List ℕ → List ℕ
+numbersLine [] = 10 ∷ []
+numbersLine (n ∷ []) = decimal n ++ (10 ∷ [])
+numbersLine (n ∷ m ∷ ns) = decimal n ++ (9 ∷ numbersLine (m ∷ ns))
+
+-- the length of a line of one number or more: after each number's digits stands one byte
+unfoldable pub lineLength : List ℕ → ℕ
+lineLength [] = 0
+lineLength (n ∷ ns) = length (decimal n) + 1 + lineLength ns
+
+-- bytes put over others from an index on
+unfoldable pub put : ℕ → List ℕ → List ℕ → List ℕ
+put at bytes out = take at out ++ (bytes ++ drop (at + length bytes) out)
+
+-- bytes put where they fit, else nothing; the index after them
+abbrev pub putIf : ℕ → List ℕ → List ℕ → List ℕ
+putIf at bytes out = cond (leb (at + length bytes) (length out)) (put at bytes out) out
+
+abbrev pub after : ℕ → List ℕ → ℕ → ℕ
+after at bytes size = cond (leb (at + length bytes) size) (at + length bytes) at
+
+-- point, answer, visited, V, changed: the heading
+abbrev pub heading : List ℕ
+heading =
+    112 ∷ 111 ∷ 105 ∷ 110 ∷ 116 ∷ 9
+    ∷ 97 ∷ 110 ∷ 115 ∷ 119 ∷ 101 ∷ 114 ∷ 9
+    ∷ 118 ∷ 105 ∷ 115 ∷ 105 ∷ 116 ∷ 101 ∷ 100 ∷ 9
+    ∷ 86 ∷ 9
+    ∷ 99 ∷ 104 ∷ 97 ∷ 110 ∷ 103 ∷ 101 ∷ 100 ∷ 10 ∷ []
+
+-- a refused plan writes only `refused`, number, line
+abbrev pub refusedLine : ℕ → ℕ → List ℕ
+refusedLine number line = 114 ∷ 101 ∷ 102 ∷ 117 ∷ 115 ∷ 101 ∷ 100 ∷ 9 ∷ numbersLine (number ∷ line ∷ [])

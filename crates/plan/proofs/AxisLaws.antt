@@ -1,0 +1,58 @@
+-- What is known of an axis line that is not refused. No contract cites this file. Assumes nothing.
+use mathlib.Core.Path.{_≡_, refl, sym, ap, _∙_}
+use mathlib.Core.Bool.{Bool, true, false, true≢false, cond, not, _||_}
+use mathlib.Core.List.{List, [], _∷_, map}
+use Prim.Native.Nat.{ℕ, _<_, _≤_}
+use native.Mathlib.Omega.{arith}
+use borrow.Author.Tests.{ltb-false, leb-false}
+use lib.Dec.{eqb, ltb, leb}
+use lib.ListN.{length, getD, drop}
+use Rattle.lists.specs.Search.{any, anyPair}
+use Rattle.lists.proofs.TestLaws.{or-eq-false}
+use Rattle.points.specs.Axes.{Axis, limit}
+use Rattle.line.specs.Line.{nameOf, valuesOf, badForm, badName, badValues, tooMany, refusal, axisRefusal}
+
+-- did a name come on these axes?
+abbrev pub cameOn : List Axis → ℕ → Bool
+cameOn axes name = any (λ (a : Axis). eqb (a .name) name) axes
+
+-- the line's name is known and new, and its values are few, all different and below the name's limit
+pub record Good (axes : List Axis) (fields : List (List ℕ)) : Type 0 where
+  pub known : nameOf fields < 14
+  pub new : cameOn axes (nameOf fields) ≡ false
+  pub below : any (leb (limit (nameOf fields))) (valuesOf fields) ≡ false
+  pub once : anyPair eqb (valuesOf fields) ≡ false
+  pub some : 1 ≤ length (valuesOf fields)
+  pub few : length (valuesOf fields) ≤ 64
+  pub room : length axes < 8
+
+cond-zero : (b : Bool) {n m : ℕ} → (n ≡ 0 → ⊥) → cond b n m ≡ 0 → (b ≡ false) × (m ≡ 0)
+cond-zero true h e = absurd (h e)
+cond-zero false h e = (refl, e)
+
+some-values : (fields : List (List ℕ)) → badForm fields ≡ false → 1 ≤ length (valuesOf fields)
+unfolding badForm valuesOf
+some-values [] e = absurd (true≢false e)
+some-values (word ∷ []) e = absurd (true≢false e)
+some-values (word ∷ name ∷ []) e = absurd (true≢false e)
+some-values (word ∷ name ∷ v ∷ vs) e = omega arith
+
+pub good : (axes : List Axis) (fields : List (List ℕ)) → axisRefusal axes fields ≡ 0 → Good axes fields
+unfolding refusal
+good axes fields e =
+    let (form, e21) = cond-zero (badForm fields) (λ z. omega arith) e in
+    let (named, e22) = cond-zero (badName (cameOn axes) (nameOf fields)) (λ z. omega arith) e21 in
+    let (valued, e23) = cond-zero (badValues (nameOf fields) (valuesOf fields)) (λ z. omega arith) e22 in
+    let (many, e24) = cond-zero (tooMany (length axes) (valuesOf fields)) (λ z. omega arith) e23 in
+    let (unknown, new) = or-eq-false _ _ named in
+    let (below, once) = or-eq-false _ _ valued in
+    let (axes8, values64) = or-eq-false _ _ many in
+    record {
+      known = leb-false _ _ unknown;
+      new = new;
+      below = below;
+      once = once;
+      some = some-values fields form;
+      few = ltb-false _ _ values64;
+      room = leb-false _ _ axes8;
+    }

@@ -1,0 +1,10 @@
+pub mod ReadingLaws
+pub mod CursorLaws
+pub mod AxisLaws
+pub mod TableLaws
+pub mod HeldLaws
+pub mod SoundLaws
+pub mod AcceptedLaws
+pub mod HandedLaws
+pub mod HeadRead
+pub mod AxesRead

@@ -1,0 +1,105 @@
+-- Laws of `specs/Reading.antt`: a line taken from the front. No contract cites this file. Assumes nothing.
+use mathlib.Core.Path.{_≡_, refl, ap, _∙_}
+use mathlib.Core.Bool.{Bool, true, false, cond}
+use mathlib.Core.List.{List, [], _∷_, _++_}
+use Prim.Native.Nat.{ℕ, suc, _+_, _<_, _≤_}
+use native.Mathlib.Omega.{arith}
+use borrow.Author.Tests.{eq-eqb, ne-eqb, lt-ltb, le-ltb}
+use lib.Dec.{eqb, ltb}
+use lib.ListN.{length}
+use Rattle.text.specs.Text.{before, parts, fieldsOf}
+use Rattle.points.specs.Axes.{Axis}
+use Rattle.line.specs.Line.{memoryOf, drawOf, axisOf, axisRefusal}
+use Rattle.plan.specs.Reading.{Line, skipped, kept, Reading, accepted, refusedAt, axisLines, drawLine, memoryLine}
+
+-- There is always a line
+
+pub parts-some : (mark : ℕ) (s : List ℕ) → 0 < length (parts mark s)
+unfolding before parts
+parts-some mark [] = omega arith
+parts-some mark (c ∷ s) = go (eqb c mark) (parts mark s)
+  where
+    go : (b : Bool) (ps : List (List ℕ)) → 0 < length (cond b ([] ∷ ps) (before c ps))
+    go true ps = omega arith
+    go false [] = omega arith
+    go false (p ∷ ps) = omega arith
+
+pub kept-some : (n : ℕ) (ls : List (List ℕ)) → 0 < length ls → 0 < length (kept n ls)
+unfolding kept
+kept-some n [] h = h
+kept-some n (l ∷ []) h = omega arith
+kept-some n (l ∷ m ∷ ls) h = go (skipped l) _ (kept-some (suc n) (m ∷ ls) (omega arith))
+  where
+    go : (b : Bool) (ks : List Line) → 0 < length ks → 0 < length (cond b ks (record { number = n; bytes = l } ∷ ks))
+    go true ks h = h
+    go false ks h = omega arith
+
+-- A line that is skipped, and one that is not
+
+module _ (n : ℕ) (l : List ℕ) where
+  pub kept-skip : (ls : List (List ℕ)) → 0 < length ls → skipped l ≡ true → kept n (l ∷ ls) ≡ kept (suc n) ls
+  unfolding kept
+  kept-skip [] h e = absurd (omega arith)
+  kept-skip (m ∷ ls) h e = rw e
+
+  pub kept-keep : (ls : List (List ℕ)) → 0 < length ls → skipped l ≡ false → kept n (l ∷ ls) ≡ record { number = n; bytes = l } ∷ kept (suc n) ls
+  unfolding kept
+  kept-keep [] h e = absurd (omega arith)
+  kept-keep (m ∷ ls) h e = rw e
+
+  pub kept-last : kept n (l ∷ []) ≡ record { number = n; bytes = l } ∷ []
+  unfolding kept
+  kept-last = refl
+
+-- A memory line, a draw line, an axis line
+
+module _ (l : Line) where
+  pub memory-last : memoryLine (l ∷ []) ≡ refusedAt 20 (l .number) []
+  unfolding memoryLine
+  memory-last = refl
+
+  pub memory-bad : (ls : List Line) → memoryOf (fieldsOf (l .bytes)) ≡ 0 → memoryLine (l ∷ ls) ≡ refusedAt 20 (l .number) []
+  unfolding memoryLine
+  memory-bad [] e = refl
+  memory-bad (m ∷ ls) e = rw (eq-eqb _ _ e)
+
+  pub memory-next : (ls : List Line) → 0 < length ls → (memoryOf (fieldsOf (l .bytes)) ≡ 0 → ⊥) → memoryLine (l ∷ ls) ≡ drawLine (memoryOf (fieldsOf (l .bytes))) ls
+  unfolding memoryLine
+  memory-next [] h n = absurd (omega arith)
+  memory-next (m ∷ ls) h n = rw (ne-eqb _ _ n)
+
+module _ (words : ℕ) (l : Line) where
+  pub draw-last : drawLine words (l ∷ []) ≡ refusedAt 20 (l .number) []
+  unfolding drawLine
+  draw-last = refl
+
+  pub draw-bad : (ls : List Line) → 8 ≤ drawOf (fieldsOf (l .bytes)) → drawLine words (l ∷ ls) ≡ refusedAt 20 (l .number) []
+  unfolding drawLine
+  draw-bad [] h = refl
+  draw-bad (m ∷ ls) h = rw (le-ltb _ _ h)
+
+  pub draw-next : (ls : List Line) → 0 < length ls → drawOf (fieldsOf (l .bytes)) < 8 → drawLine words (l ∷ ls) ≡ axisLines words (drawOf (fieldsOf (l .bytes))) [] ls
+  unfolding drawLine
+  draw-next [] h d = absurd (omega arith)
+  draw-next (m ∷ ls) h d = rw (lt-ltb _ _ d)
+
+module _ (words draw : ℕ) (axes : List Axis) (l : Line) where
+  pub axes-end : length (l .bytes) ≡ 0 → axisLines words draw axes (l ∷ []) ≡ accepted words draw axes
+  unfolding axisLines
+  axes-end e = rw (eq-eqb _ _ e)
+
+  pub axes-last : (length (l .bytes) ≡ 0 → ⊥) → axisLines words draw axes (l ∷ []) ≡ refusedAt 20 (l .number) axes
+  unfolding axisLines
+  axes-last n = rw (ne-eqb _ _ n)
+
+  pub axes-bad : (ls : List Line) → 0 < length ls → (axisRefusal axes (fieldsOf (l .bytes)) ≡ 0 → ⊥)
+      → axisLines words draw axes (l ∷ ls) ≡ refusedAt (axisRefusal axes (fieldsOf (l .bytes))) (l .number) axes
+  unfolding axisLines
+  axes-bad [] h n = absurd (omega arith)
+  axes-bad (m ∷ ls) h n = rw (ne-eqb _ _ n)
+
+  pub axes-next : (ls : List Line) → 0 < length ls → axisRefusal axes (fieldsOf (l .bytes)) ≡ 0
+      → axisLines words draw axes (l ∷ ls) ≡ axisLines words draw (axes ++ (axisOf (fieldsOf (l .bytes)) ∷ [])) ls
+  unfolding axisLines
+  axes-next [] h e = absurd (omega arith)
+  axes-next (m ∷ ls) h e = rw (eq-eqb _ _ e)

@@ -1,0 +1,84 @@
+-- The axes that are read are sound, of a refused plan too. No contract cites this file. Assumes nothing.
+use mathlib.Core.Path.{_≡_, refl, sym, ap, _∙_}
+use mathlib.Core.Bool.{Bool, true, false, cond}
+use mathlib.Core.List.{List, [], _∷_, _++_}
+use Prim.Native.Nat.{ℕ, _<_, _≤_}
+use native.Mathlib.Omega.{arith}
+use borrow.Author.Tests.{lt-leb, le-ltb, ne-eqb, eqb-true}
+use lib.Dec.{eqb, ltb}
+use lib.ListN.{length, length-append}
+use Rattle.lists.specs.Search.{any, anyPair}
+use Rattle.lists.proofs.TestLaws.{eqb-comm}
+use Rattle.lists.proofs.SearchLaws.{any-snoc, any-none, anyPair-snoc}
+use Rattle.text.specs.Text.{linesOf, fieldsOf}
+use Rattle.points.specs.Axes.{Axis}
+use Rattle.points.specs.OneToOne.{unknown, isNamed, sameName, badLength, tooLarge, repeats, Sound}
+use Rattle.line.specs.Line.{memoryOf, drawOf, nameOf, valuesOf, axisOf, axisRefusal}
+use Rattle.plan.specs.Reading.{Line, kept, accepted, refusedAt, axisLines, drawLine, memoryLine, reading}
+use Rattle.plan.proofs.AxisLaws.{cameOn, Good, good}
+
+pub sound-none : Sound []
+unfolding any anyPair
+sound-none = record { few = omega arith; known = refl; distinct = refl; lengths = refl; small = refl; unrepeated = refl }
+
+module _ {axes : List Axis} {fields : List (List ℕ)} (s : Sound axes) (g : Good axes fields) where
+  new-name : any (sameName (axisOf fields)) axes ≡ false
+  new-name = any-none (λ (a : Axis). eqb (a .name) (nameOf fields)) (sameName (axisOf fields)) axes (λ a e. eqb-comm (nameOf fields) (a .name) ∙ e) (g .new)
+
+  pub sound-next : Sound (axes ++ (axisOf fields ∷ []))
+  sound-next =
+      let a = axisOf fields in
+      record {
+        few = omega (arith, length-append axes (a ∷ []), g .room);
+        known = any-snoc unknown a axes ∙ rw (lt-leb _ _ (g .known)) (s .known);
+        distinct = anyPair-snoc sameName (λ b c. eqb-comm (b .name) (c .name)) a axes ∙ rw new-name (s .distinct);
+        lengths = any-snoc badLength a axes ∙ rw (ne-eqb (length (valuesOf fields)) 0 (λ z. omega (arith, g .some)), le-ltb _ _ (g .few)) (s .lengths);
+        small = any-snoc tooLarge a axes ∙ rw (g .below) (s .small);
+        unrepeated = any-snoc repeats a axes ∙ rw (g .once) (s .unrepeated);
+      }
+
+-- The reading of a text
+
+pub axisLines-sound : (words draw : ℕ) (axes : List Axis) (ls : List Line) → Sound axes → Sound (axisLines words draw axes ls .axes)
+unfolding axisLines
+axisLines-sound words draw axes [] s = s
+axisLines-sound words draw axes (l ∷ []) s = go (eqb (length (l .bytes)) 0)
+  where
+    go : (b : Bool) → Sound (cond b (accepted words draw axes) (refusedAt 20 (l .number) axes) .axes)
+    go true = s
+    go false = s
+axisLines-sound words draw axes (l ∷ m ∷ ls) s =
+    go (eqb (axisRefusal axes (fieldsOf (l .bytes))) 0) refl (λ a. axisLines-sound words draw a (m ∷ ls))
+  where
+    go : (b : Bool) → eqb (axisRefusal axes (fieldsOf (l .bytes))) 0 ≡ b → ((a : List Axis) → Sound a → Sound (axisLines words draw a (m ∷ ls) .axes))
+        → Sound (cond b (axisLines words draw (axes ++ (axisOf (fieldsOf (l .bytes)) ∷ [])) (m ∷ ls)) (refusedAt (axisRefusal axes (fieldsOf (l .bytes))) (l .number) axes) .axes)
+    go true e f = f _ (sound-next s (good axes _ (eqb-true _ _ e)))
+    go false e f = s
+
+drawLine-sound : (words : ℕ) (ls : List Line) → Sound (drawLine words ls .axes)
+unfolding drawLine
+drawLine-sound words [] = sound-none
+drawLine-sound words (l ∷ []) = sound-none
+drawLine-sound words (l ∷ m ∷ ls) = go (ltb (drawOf (fieldsOf (l .bytes))) 8)
+  where
+    go : (b : Bool) → Sound (cond b (axisLines words (drawOf (fieldsOf (l .bytes))) [] (m ∷ ls)) (refusedAt 20 (l .number) []) .axes)
+    go true = axisLines-sound words _ [] (m ∷ ls) sound-none
+    go false = sound-none
+
+memoryLine-sound : (ls : List Line) → Sound (memoryLine ls .axes)
+unfolding memoryLine
+memoryLine-sound [] = sound-none
+memoryLine-sound (l ∷ []) = sound-none
+memoryLine-sound (l ∷ m ∷ ls) = go (eqb (memoryOf (fieldsOf (l .bytes))) 0)
+  where
+    go : (b : Bool) → Sound (cond b (refusedAt 20 (l .number) []) (drawLine (memoryOf (fieldsOf (l .bytes))) (m ∷ ls)) .axes)
+    go true = sound-none
+    go false = drawLine-sound _ (m ∷ ls)
+
+pub reading-sound : (text : List ℕ) → Sound (reading text .axes)
+unfolding reading
+reading-sound text = go (ltb 65536 (length text))
+  where
+    go : (b : Bool) → Sound (cond b (refusedAt 20 1 []) (memoryLine (kept 1 (linesOf text))) .axes)
+    go true = sound-none
+    go false = memoryLine-sound _

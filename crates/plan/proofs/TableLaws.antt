@@ -1,0 +1,64 @@
+-- Laws of `specs/Table.antt`: axes stored one after the other, and read back. No contract cites this file. Assumes nothing.
+use mathlib.Core.Path.{_≡_, refl, sym, ap, ap₂, _∙_}
+use mathlib.Core.List.{List, [], _∷_, _++_, append-nil}
+use Prim.Native.Nat.{ℕ, suc, _+_, _≤_}
+use native.Mathlib.Numerals.{add-one}
+use native.Mathlib.Omega.{arith}
+use lib.ListN.{length, getD, set, take, drop, length-append, length-drop}
+use lib.Seq.{sets, sets-eq, take-append-seam, drop-append-seam, drop-append-add, drop-drop}
+use Rattle.points.specs.Axes.{Axis}
+use Rattle.points.specs.Table.{tableOf, axesIn}
+use Rattle.points.proofs.TableLaws.{axesIn-tableOf, tableOf-append}
+use Rattle.line.specs.Line.{storedAt}
+use Rattle.plan.specs.Table.{stored}
+
+-- Numbers stored from an index on
+
+module _ (t : List ℕ) (at : ℕ) where
+  pub storedAt-two : (a b : ℕ) (vs : List ℕ) → storedAt (at + 2) vs (set (set t at a) (at + 1) b) ≡ storedAt at (a ∷ b ∷ vs) t
+  unfolding storedAt
+  storedAt-two a b vs =
+      let two : at + 2 ≡ suc (suc at) = omega arith in
+      rw (add-one at, two)
+
+storedAt-sets : (vs t : List ℕ) (at : ℕ) → storedAt at vs t ≡ sets t at vs
+unfolding storedAt
+storedAt-sets [] t at = refl
+storedAt-sets (v ∷ vs) t at = storedAt-sets vs (set t at v) (suc at)
+
+pub storedAt-append : (xs ys zs : List ℕ) → length ys ≤ length zs → storedAt (length xs) ys (xs ++ zs) ≡ xs ++ ys ++ drop (length ys) zs
+storedAt-append xs ys zs h =
+    storedAt-sets ys (xs ++ zs) (length xs)
+    ∙ sets-eq ys (xs ++ zs) (length xs) (omega (arith, length-append xs zs))
+    ∙ rw (take-append-seam xs zs, drop-append-add xs zs)
+
+-- An axis more
+
+module _ (axes : List Axis) (a : Axis) where
+  abbrev pub withAxis : List Axis
+  withAxis = axes ++ (a ∷ [])
+
+  abbrev pub entry : List ℕ
+  entry = a .name ∷ length (a .values) ∷ a .values
+
+  tableOf-withAxis : tableOf withAxis ≡ tableOf axes ++ entry
+  unfolding tableOf
+  tableOf-withAxis = tableOf-append axes (a ∷ []) ∙ rw (append-nil (a .values))
+
+  pub length-withAxis : length (tableOf withAxis) ≡ length (tableOf axes) + 2 + length (a .values)
+  length-withAxis = ap length tableOf-withAxis ∙ length-append (tableOf axes) entry ∙ omega arith
+
+  pub stored-next : (t : List ℕ) → length (tableOf axes) + 2 + length (a .values) ≤ length t
+      → storedAt (length (tableOf axes)) entry (stored axes t) ≡ stored withAxis t
+  stored-next t h =
+      storedAt-append (tableOf axes) entry _ (omega (arith, length-drop (length (tableOf axes)) t))
+      ∙ rw (drop-drop, tableOf-withAxis, length-append (tableOf axes) entry)
+
+-- The table keeps its length, and the axes can be read back
+
+module _ (axes : List Axis) (t : List ℕ) where
+  pub length-stored : length (tableOf axes) ≤ length t → length (stored axes t) ≡ length t
+  length-stored h = omega (arith, length-append (tableOf axes) (drop (length (tableOf axes)) t), length-drop (length (tableOf axes)) t)
+
+  pub axesIn-stored : axesIn (length axes) (stored axes t) ≡ axes
+  axesIn-stored = axesIn-tableOf axes _

@@ -1,0 +1,68 @@
+-- `next_line` meets its contract: the lines that the loop passes are skipped ones. Assumes nothing.
+use mathlib.Core.Path.{sym, _∙_}
+use Prim.Native.Nat.{_-_}
+use native.Mathlib.Omega.{arith}
+use borrow.Author.Needs.{needs}
+use lib.ListN.{length}
+use Rattle.plan.specs.Cursor.{Reached}
+use Rattle.plan.proofs.CursorLaws.{reached-here, reached-next, end-le}
+use Rattle.plan.proofs.next_line.Statement.{statement}
+use Rattle.plan.proofs.next_line.Tie as tie
+use Rattle.plan.proofs.next_line.Reads as reads
+use Rattle.plan.proofs.next_line.Lts as lts
+use Rattle.plan.proofs.is_skipped.Reads as is-skipped-reads
+use Rattle.text.proofs.part_end.Reads as part-end-reads
+
+abbrev Inv-loop : tie.InvT-loop
+Inv-loop text from number at₀ end₀ line₀ at end line = Reached text from number (record { at = at; end = end; line = line })
+
+abbrev μ-loop : tie.MeasureT-loop
+μ-loop text from number at₀ end₀ line₀ at end line = length text - at
+
+part-end-requires : tie.Need-part-end-requires Inv-loop μ-loop
+part-end-requires c κs = search needs
+
+loop-holds : tie.Need-loop-holds Inv-loop μ-loop
+loop-holds c = reached-here (c .before .before .pre) (c .part-end .ensures)
+
+is-skipped-requires : tie.Need-is-skipped-requires Inv-loop μ-loop
+is-skipped-requires c κs = (c .loop .inv .place .within, c .loop .inv .ends)
+
+add-at : tie.Need-add-at Inv-loop μ-loop
+add-at c = omega (arith, end-le (c .before .before .loop .inv))
+
+part-end-requires-2 : tie.Need-part-end-requires-2 Inv-loop μ-loop
+part-end-requires-2 c κs = search needs
+
+add-line : tie.Need-add-line Inv-loop μ-loop
+add-line c = omega (arith, end-le (c .before .before .before .loop .inv), c .before .before .before .loop .inv .place .numbered, c .before .before .before .loop .inv .ends)
+
+loop-less : tie.Need-loop-less Inv-loop μ-loop
+loop-less c =
+    let r = c .before .before in
+    let (l, n) = reached-next (r .before .loop .inv) (sym (r .is-skipped .ensures) ∙ c .before .if1 .taken) (c .part-end2 .ensures) in
+    omega (arith, l, r .before .loop .inv .ends)
+
+loop-again : tie.Need-loop-again Inv-loop μ-loop
+loop-again c =
+    let r = c .before .before in
+    reached-next (r .before .loop .inv) (sym (r .is-skipped .ensures) ∙ c .before .if1 .taken) (c .part-end2 .ensures) .1
+
+returns : tie.Need-returns Inv-loop μ-loop
+returns c = record { reached = c .before .before .loop .inv; stays = sym (c .before .is-skipped .ensures) ∙ c .if1 .left }
+
+pub next-line-spec : {M : Type 1} → statement M
+next-line-spec =
+    tie.close
+    (tie.spec
+    Inv-loop
+    μ-loop
+    part-end-requires
+    loop-holds
+    is-skipped-requires
+    add-at
+    part-end-requires-2
+    add-line
+    loop-less
+    loop-again
+    returns)

@@ -1,0 +1,44 @@
+-- What `read` hands back, and the lent table after it. Assumes nothing.
+use mathlib.Core.Path.{_≡_}
+use mathlib.Core.Bool.{cond}
+use mathlib.Core.List.{List, _++_}
+use Prim.Native.Nat.{ℕ}
+use lib.Dec.{eqb, ltb}
+use lib.ListN.{length, drop}
+use Rattle.points.specs.Axes.{Axis, count}
+use Rattle.points.specs.Table.{tableOf}
+use Rattle.plan.specs.declared.Plan.{Plan}
+use Rattle.plan.specs.Reading.{Reading, reading}
+
+-- a table has room for 8 axes of 64 values, each with its name and its length
+abbrev pub room : ℕ
+room = 528
+
+-- no plan: the answer and the line, and zeros
+abbrev pub refusedPlan : ℕ → ℕ → Plan
+refusedPlan answer line = record { answer = answer; line = line; words = 0; draw = 0; axes = 0; points = 0 }
+
+abbrev pub acceptedPlan : ℕ → ℕ → ℕ → ℕ → Plan
+acceptedPlan words draw axes points = record { answer = 0; line = 0; words = words; draw = draw; axes = axes; points = points }
+
+abbrev pub summary : Reading → Plan
+summary r =
+    cond (eqb (r .answer) 0)
+    (acceptedPlan (r .words) (r .draw) (length (r .axes)) (count (r .axes)))
+    (refusedPlan (r .answer) (r .line))
+
+-- 9 where the table is too short
+unfoldable pub planOf : List ℕ → ℕ → Plan
+planOf text size = cond (ltb size room) (refusedPlan 9 0) (summary (reading text))
+
+-- the axes at the table's start, and the rest as it was
+abbrev pub stored : List Axis → List ℕ → List ℕ
+stored axes t = tableOf axes ++ drop (length (tableOf axes)) t
+
+-- what is handed back of a reading: its plan, and the table with its axes
+pub record Handed (r : Reading) (t : List ℕ) (plan : Plan) (table : List ℕ) : Type 0 where
+  pub plan-is : plan ≡ summary r
+  pub table-is : table ≡ stored (r .axes) t
+
+unfoldable pub tableAfter : List ℕ → List ℕ → List ℕ
+tableAfter text t = cond (ltb (length t) room) t (stored (reading text .axes) t)

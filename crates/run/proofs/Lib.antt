@@ -1,0 +1,5 @@
+pub mod AnswerLaws
+pub mod RunLaws
+pub mod LinesLaws
+pub mod ProgressLaws
+pub mod ValuesLaws

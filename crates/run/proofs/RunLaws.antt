@@ -1,0 +1,68 @@
+-- Laws of `specs/Run.antt`. No contract cites this file. Assumes nothing.
+use mathlib.Core.Path.{_≡_, refl}
+use mathlib.Core.Bool.{Bool, true, false, cond}
+use mathlib.Core.List.{List, _++_, append-nil}
+use mathlib.Core.Logic.{_≢_}
+use Prim.Native.Nat.{ℕ, _+_, _/_, _%_, _^_, _<_, _≤_}
+use native.Mathlib.Omega.{arith}
+use borrow.Author.Tests.{eq-eqb, ne-eqb}
+use lib.ListN.{length, drop, drop-of-length-le}
+use Rattle.memory.specs.Bits.{noMemory}
+use Rattle.memory.specs.Changed.{changedBits, counted}
+use Rattle.memory.proofs.ChangedLaws.{changedBits-same}
+use Rattle.pixel.specs.Control.{windowing}
+use Rattle.geometry.specs.Window.{windowOf}
+use Rattle.geometry.specs.Window.{whole as whole·rectangle}
+use Rattle.geometry.specs.declared.Clipped.{Clipped}
+use Rattle.geometry.proofs.WindowLaws.{Fits, clipped-fits}
+use Rattle.settings.specs.declared.Settings.{Settings}
+use Rattle.engine.specs.Engine.{pixels}
+use Rattle.engine.proofs.VisitsLaws.{pixels-lt}
+use Rattle.drawing.specs.declared.Operation.{Operation}
+use Rattle.drawing.specs.Operation.{toXY}
+use Rattle.drawing.specs.Array.{rectangleOf, part, drawingOf, drawingFor}
+use Rattle.drawing.specs.Refusal.{refusal}
+use Rattle.drawing.specs.Draw.{outcomeAt, visitedBy, outcome, drawn}
+use Rattle.points.specs.Points.{experiment}
+use Rattle.points.specs.Table.{axesIn, pointsIn, outAfter}
+use Rattle.points.proofs.AnswerLaws.{answer-done}
+use Rattle.run.specs.Run.{whole, ranOver}
+
+-- the experiment of a point in a list of fourteen
+pub outAfter-fourteen : (k n : ℕ) (t out : List ℕ) → length out ≡ 14 → n < pointsIn k t → outAfter k t n out ≡ experiment (axesIn k t) n
+outAfter-fourteen k n t out l h =
+    rw (← answer-done k n t out (omega arith) h .0, drop-of-length-le out {i = 14} (omega arith)) (append-nil (experiment (axesIn k t) n))
+
+-- the count of a memory and one of its length
+pub counted-bits : (m m′ : List ℕ) → noMemory (length m) ≡ false → length m′ ≡ length m → counted m m′ .bits ≡ changedBits m m′
+unfolding counted
+counted-bits m m′ e l = rw (l, e)
+
+-- a refused point gives its number, and zeros
+pub ranOver-refused : (op : Operation) (s : Settings) (m : List ℕ) → refusal op s 0 (length m) ≢ 0
+    → ranOver op s m ≡ record { answer = refusal op s 0 (length m); visited = 0; v = false; changed = 0 }
+unfolding ranOver outcome drawn
+ranOver-refused op s m h = rw (ne-eqb _ _ h, changedBits-same m)
+
+-- an array's columns and rows are at most DX and DY
+cols-rows-le : (op : Operation) (s : Settings) → (part op s .cols ≤ s .dydx % 2 ^ 16) × (part op s .rows ≤ s .dydx / 2 ^ 16)
+unfolding part
+cols-rows-le op s = go (toXY op) _ (clipped-fits (windowing (s .control)) (rectangleOf s) (windowOf (s .wstart) (s .wend)) false)
+  where
+    go : (t : Bool) (c : Clipped) → Fits (rectangleOf s) c
+        → (cond t c (whole·rectangle (rectangleOf s) false) .cols ≤ s .dydx % 2 ^ 16) × (cond t c (whole·rectangle (rectangleOf s) false) .rows ≤ s .dydx / 2 ^ 16)
+    go true c f = (f .cols, f .rows)
+    go false c f = (omega arith, omega arith)
+
+pixels-lt-pow : (op : Operation) (s : Settings) → s .dydx < 2 ^ 32 → pixels (drawingFor op s) < 2 ^ 32
+unfolding drawingOf
+pixels-lt-pow op s h = pixels-lt (drawingFor op s) (omega (arith, cols-rows-le op s .0)) (omega (arith, cols-rows-le op s .1))
+
+-- an accepted point is drawn whole: it is done, and all its pixels are visited
+pub ranOver-done : (op : Operation) (s : Settings) (m : List ℕ) → s .dydx < 2 ^ 32 → refusal op s 0 (length m) ≡ 0
+    → (ranOver op s m .answer ≡ 0) × (ranOver op s m .visited ≡ pixels (drawingFor op s))
+unfolding ranOver outcome outcomeAt
+ranOver-done op s m h e =
+    let n = pixels-lt-pow op s h in
+    let all : visitedBy op s 0 whole ≡ pixels (drawingFor op s) = omega (arith, n) in
+    rw (eq-eqb _ _ e, all) (rw (eq-eqb (0 + pixels (drawingFor op s)) (pixels (drawingFor op s)) (omega arith)), refl)

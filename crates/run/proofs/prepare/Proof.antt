@@ -1,0 +1,33 @@
+-- `run::prepare` meets its contract. Assumes nothing.
+use mathlib.Core.Path.{_≡_, sym, ap, _∙_}
+use mathlib.Core.Bool.{_&&_}
+use Prim.Native.Nat.{ℕ}
+use borrow.Author.Needs.{needs}
+use borrow.Author.Tests.{eqb-true}
+use lib.Dec.{eqb}
+use lib.ListN.{length}
+use Rattle.memory.proofs.Tests.{and-true-left, and-true-right}
+use Rattle.image.specs.Image.{image, imaged}
+use Rattle.run.proofs.prepare.Statement.{statement}
+use Rattle.run.proofs.prepare.Tie as tie
+
+returns : tie.Need-returns
+returns c =
+    let x = c .before .before .args in
+    let e = eqb-true (x .seed) (x .held) (and-true-right (x .made) (eqb (x .seed) (x .held)) (c .if1 .taken)) in
+    rw e (c .before .before .pre .1 (and-true-left (x .made) (eqb (x .seed) (x .held)) (c .if1 .taken)))
+
+fill-image-requires : tie.Need-fill-image-requires
+fill-image-requires c κs = search needs
+
+same-length : tie.Need-same-length
+same-length c = search needs
+
+returns-2 : tie.Need-returns-2
+unfolding imaged
+returns-2 c =
+    let f = c .before .before in
+    f .fill-image .ensures .1 ∙ rw (f .before .before .before .before .pre .0)
+
+pub prepare-spec : {M : Type 1} → statement M
+prepare-spec = tie.close (tie.spec returns fill-image-requires same-length returns-2)

@@ -1,0 +1,4 @@
+pub mod Run
+pub mod Lines
+pub mod Progress
+pub mod Values

@@ -1,0 +1,277 @@
+// The points of a plan, run.
+ghost use mathlib.Core.Path.{_≡_};
+ghost use mathlib.Core.Bool.{false};
+ghost use Prim.Native.Nat.{_+_, _*_, _^_, _<_, _≤_};
+ghost use lib.ListN.{length};
+ghost use Rattle.memory.specs.Bits.{noMemory};
+ghost use Rattle.image.specs.Image.{image};
+ghost use Rattle.drawing.specs.Draw.{drawn};
+ghost use Rattle.points.specs.Points.{experiment};
+ghost use Rattle.points.specs.Table.{axesIn, pointsIn};
+ghost use Rattle.listing.specs.Listing.{put};
+ghost use Rattle.run.specs.Run.{operationOf, settingsOf, seedOf, whole, ranOver, bit, lineOf, imageFor, memoryFor, pointLine};
+ghost use Rattle.run.specs.Lines.{pointLines, longest, afterLast, badShape, endsPast, linesOf, written, imageAfter, memoryAfter};
+ghost use Rattle.run.specs.Progress.{Holds, progressed};
+use drawing::Operation;
+use settings::Settings;
+
+// What a run of points hands back: 0, 9 or 24, and how many bytes of listing there are.
+pub struct Listed {
+    pub answer: u32,
+    pub length: usize,
+}
+
+// What one point gives: the drawing's answer, the pixels visited, V, and the bits that differ from the image.
+pub struct Ran {
+    pub answer: u32,
+    pub visited: u64,
+    pub v: bool,
+    pub changed: u64,
+}
+
+// The drawing of a number.
+fn operation_of(draw: u64) -> Operation
+    ensures { λ r. ⌜ r ≡ operationOf draw ⌝ }
+{
+    match draw {
+        0 => Operation::FillL,
+        1 => Operation::FillXY,
+        2 => Operation::PixbltLL,
+        3 => Operation::PixbltLXY,
+        4 => Operation::PixbltXYL,
+        5 => Operation::PixbltXYXY,
+        6 => Operation::PixbltBL,
+        _ => Operation::PixbltBXY,
+    }
+}
+
+// The settings of an experiment.
+fn settings_of(values: &[u64; 14]) -> Settings
+    ensures { λ r. ⌜ r ≡ settingsOf (now (values .entry)) ⌝ }
+{
+    let saddr = (values[0] % 4294967296) as u32;
+    let sptch = (values[1] % 4294967296) as u32;
+    let daddr = (values[2] % 4294967296) as u32;
+    let dptch = (values[3] % 4294967296) as u32;
+    let offset = (values[4] % 4294967296) as u32;
+    let wstart = (values[5] % 4294967296) as u32;
+    let wend = (values[6] % 4294967296) as u32;
+    let dydx = (values[7] % 4294967296) as u32;
+    let color0 = (values[8] % 4294967296) as u32;
+    let color1 = (values[9] % 4294967296) as u32;
+    let control = (values[10] % 65536) as u16;
+    let psize = (values[11] % 65536) as u16;
+    let pmask = (values[12] % 65536) as u16;
+    Settings {
+        saddr,
+        sptch,
+        daddr,
+        dptch,
+        offset,
+        wstart,
+        wend,
+        dydx,
+        color0,
+        color1,
+        control,
+        psize,
+        pmask,
+    }
+}
+
+// Copies a memory over another of its size.
+fn copy(from: &[u16], to: &mut [u16])
+    requires { ⌜ length (now from) ≡ length (now to) ⌝ }
+    ensures { λ _. ⌜ now (to .exit) ≡ now (from .entry) ⌝ }
+{
+    let mut i = 0;
+    while i < to.len() {
+        to[i] = from[i];
+        i += 1;
+    }
+}
+
+// The image of a seed, made where the memory does not hold it already.
+fn prepare(memory: &mut [u16], seed: u64, made: bool, held: u64)
+    requires { ⌜ (noMemory (length (now memory)) ≡ false) × Holds made held (now memory) ⌝ }
+    ensures { λ _. ⌜ now (memory .exit) ≡ image (length (now (memory .entry))) seed ⌝ }
+{
+    if made & (seed == held) {
+        return;
+    }
+    image::fill_image(memory, seed);
+}
+
+// A whole drawing over an image, in a memory of its size.
+fn run_over(image: &[u16], memory: &mut [u16], op: Operation, s: Settings) -> Ran
+    requires { ⌜ (length (now image) ≡ length (now memory)) × (noMemory (length (now image)) ≡ false) ⌝ }
+    ensures { λ r. ⌜ (r ≡ ranOver op s (now (image .entry))) × (now (memory .exit) ≡ drawn op s 0 whole (now (image .entry))) ⌝ }
+{
+    copy(image, memory);
+    let o = drawing::draw(memory, op, s, 0, false, 18446744073709551615);
+    let c = memory::changed(image, memory);
+    Ran {
+        answer: o.answer,
+        visited: o.visited,
+        v: o.v,
+        changed: c.bits,
+    }
+}
+
+// The settings and the seed of a point.
+struct Experiment {
+    settings: Settings,
+    seed: u64,
+}
+
+fn experiment_of(table: &[u64], axes: u64, point: u64) -> Experiment
+    requires { ⌜ point < pointsIn axes (now table) ⌝ }
+    ensures { λ r. ⌜ r .settings ≡ settingsOf (experiment (axesIn axes (now (table .entry))) point) ⌝ }
+    ensures { λ r. ⌜ r .seed ≡ seedOf (experiment (axesIn axes (now (table .entry))) point) ⌝ }
+{
+    let mut values = [0u64; 14];
+    points::experiment(table, axes, point, &mut values);
+    let settings = settings_of(&values);
+    Experiment {
+        settings,
+        seed: values[13],
+    }
+}
+
+fn bit(v: bool) -> u64
+    ensures { λ r. ⌜ r ≡ bit v ⌝ }
+{
+    if v { 1 } else { 0 }
+}
+
+// Puts the listing line of a point.
+fn put_line(out: &mut [u8], at: usize, point: u64, ran: Ran) -> usize
+    requires { ⌜ at + length (lineOf point ran) ≤ length (now out) ⌝ }
+    ensures { λ r. ⌜ r ≡ at + length (lineOf point ran) ⌝ }
+    ensures { λ _. ⌜ now (out .exit) ≡ put at (lineOf point ran) (now (out .entry)) ⌝ }
+{
+    let answer = ran.answer as u64;
+    let v = bit(ran.v);
+    let line = [point, answer, ran.visited, v, ran.changed];
+    listing::numbers(out, at, &line)
+}
+
+// Are the memories not of one size from 1 to 32,768 words, or is there no room for the longest lines?
+fn bad_shape(words: usize, others: usize, count: u64, size: usize) -> bool
+    ensures { λ r. ⌜ r ≡ badShape words others count size ⌝ }
+{
+    (words == 0) | (32768 < words) | (words != others) | ((size as u64) / 80 < count)
+}
+
+// Is some point not below the number of points?
+fn ends_past(points: u64, first: u64, count: u64) -> bool
+    ensures { λ r. ⌜ r ≡ endsPast points first count ⌝ }
+{
+    if points < first {
+        return true;
+    }
+    points - first < count
+}
+
+// What a run has done before a point: whether an image was made, its seed, and the bytes of listing.
+struct Progress {
+    made: bool,
+    seed: u64,
+    at: usize,
+}
+
+// Runs one point: makes its image where it is not there, draws, and puts its line.
+fn run_point(
+    table: &[u64],
+    axes: u64,
+    draw: u64,
+    point: u64,
+    p: Progress,
+    image: &mut [u16],
+    memory: &mut [u16],
+    out: &mut [u8],
+) -> Progress
+    requires { ⌜ point < pointsIn axes (now table) ⌝ }
+    requires { ⌜ (noMemory (length (now image)) ≡ false) × (length (now image) ≡ length (now memory)) ⌝ }
+    requires { ⌜ Holds (p .made) (p .seed) (now image) ⌝ }
+    requires { ⌜ p .at + longest ≤ length (now out) ⌝ }
+    ensures { λ r. ⌜ r ≡ progressed (length (now (image .entry))) draw (axesIn axes (now (table .entry))) point p ⌝ }
+    ensures { λ _. ⌜ now (image .exit) ≡ imageFor (length (now (image .entry))) (experiment (axesIn axes (now (table .entry))) point) ⌝ }
+    ensures { λ _. ⌜ now (memory .exit) ≡ memoryFor (length (now (image .entry))) draw (experiment (axesIn axes (now (table .entry))) point) ⌝ }
+    ensures { λ _. ⌜ now (out .exit) ≡ put (p .at) (pointLine (length (now (image .entry))) draw (axesIn axes (now (table .entry))) point) (now (out .entry)) ⌝ }
+{
+    let e = experiment_of(table, axes, point);
+    prepare(image, e.seed, p.made, p.seed);
+    let op = operation_of(draw);
+    let ran = run_over(image, memory, op, e.settings);
+    let at = put_line(out, p.at, point, ran);
+    Progress {
+        made: true,
+        seed: e.seed,
+        at,
+    }
+}
+
+// Runs points one after another.
+fn run_points(
+    table: &[u64],
+    axes: u64,
+    draw: u64,
+    first: u64,
+    count: u64,
+    image: &mut [u16],
+    memory: &mut [u16],
+    out: &mut [u8],
+) -> usize
+    requires { ⌜ (first + count ≤ pointsIn axes (now table)) × (first + count < 2 ^ 64) ⌝ }
+    requires { ⌜ (noMemory (length (now image)) ≡ false) × (length (now image) ≡ length (now memory)) ⌝ }
+    requires { ⌜ longest * count ≤ length (now out) ⌝ }
+    ensures { λ r. ⌜ r ≡ length (pointLines (length (now (image .entry))) draw (axesIn axes (now (table .entry))) first count) ⌝ }
+    ensures { λ _. ⌜ now (image .exit) ≡ afterLast (imageFor (length (now (image .entry)))) (now (image .entry)) (axesIn axes (now (table .entry))) first count ⌝ }
+    ensures { λ _. ⌜ now (memory .exit) ≡ afterLast (memoryFor (length (now (image .entry))) draw) (now (memory .entry)) (axesIn axes (now (table .entry))) first count ⌝ }
+    ensures { λ _. ⌜ now (out .exit) ≡ put 0 (pointLines (length (now (image .entry))) draw (axesIn axes (now (table .entry))) first count) (now (out .entry)) ⌝ }
+{
+    let mut p = Progress {
+        made: false,
+        seed: 0,
+        at: 0,
+    };
+    let mut i = 0;
+    while i < count {
+        p = run_point(table, axes, draw, first + i, p, image, memory, out);
+        i += 1;
+    }
+    p.at
+}
+
+// Runs the points of a plan from a first one on, and puts their listing lines at the start of out.
+pub fn lines(
+    table: &[u64],
+    axes: u64,
+    draw: u64,
+    first: u64,
+    count: u64,
+    image: &mut [u16],
+    memory: &mut [u16],
+    out: &mut [u8],
+) -> Listed
+    ensures { λ r. ⌜ r ≡ linesOf (length (now (image .entry))) (length (now (memory .entry))) (length (now (out .entry))) draw axes (now (table .entry)) first count ⌝ }
+    ensures { λ _. ⌜ now (image .exit) ≡ imageAfter (now (image .entry)) (length (now (memory .entry))) (length (now (out .entry))) axes (now (table .entry)) first count ⌝ }
+    ensures { λ _. ⌜ now (memory .exit) ≡ memoryAfter (now (memory .entry)) (length (now (image .entry))) (length (now (out .entry))) draw axes (now (table .entry)) first count ⌝ }
+    ensures { λ _. ⌜ now (out .exit) ≡ put 0 (written (length (now (image .entry))) (length (now (memory .entry))) (length (now (out .entry))) draw axes (now (table .entry)) first count) (now (out .entry)) ⌝ }
+{
+    if bad_shape(image.len(), memory.len(), count, out.len()) {
+        return Listed {
+            answer: 9,
+            length: 0,
+        };
+    }
+    if ends_past(points::points(table, axes), first, count) {
+        return Listed {
+            answer: 24,
+            length: 0,
+        };
+    }
+    let length = run_points(table, axes, draw, first, count, image, memory, out);
+    Listed { answer: 0, length }
+}

@@ -1,0 +1,120 @@
+// A plan read and run, by the proved libraries.
+ghost use mathlib.Core.Path.{_≡_};
+ghost use Prim.Native.Nat.{_+_, _^_, _<_, min};
+use crate::input;
+use crate::input::Asked;
+use crate::output;
+use crate::output::End;
+use crate::progress;
+use plan::Plan;
+
+// How many points are run between writes: 80 bytes of listing each at most.
+const BATCH: u64 = 128;
+
+// Reads the arguments and the plan, and runs it.
+pub fn swept() -> End {
+    let asked = input::arguments();
+    if !asked.good {
+        return output::error();
+    }
+    let mut space = [0u8; 65537];
+    let got = input::plan_text(asked.plan, &mut space);
+    if !got.good {
+        return output::error();
+    }
+    let n = output::within(got.length, &space);
+    listed(asked, &space[..n])
+}
+
+// A plan's listing, its count of points, or its refusal.
+fn listed(asked: Asked, text: &[u8]) -> End {
+    let mut space = [0u64; 528];
+    let p = plan::read(text, &mut space);
+    if p.answer != 0 {
+        return output::refused(asked.first, p.answer as u64, p.line);
+    }
+    if asked.only_points {
+        return output::points(p.points);
+    }
+    if asked.first >= p.points {
+        return output::no_point(asked.first, p.points);
+    }
+    let count = least(asked.count, p.points - asked.first);
+    let end = output::heading(asked.first);
+    if end.status != 0 {
+        return end;
+    }
+    run_all(p, &space, asked.first, count)
+}
+
+// The lines of `count` points from `first` on.
+fn run_all(p: Plan, table: &[u64], first: u64, count: u64) -> End
+    requires { ⌜ first + count < 2 ^ 64 ⌝ }
+{
+    let mut image = [0u16; 32768];
+    let mut memory = [0u16; 32768];
+    run_batches(p, table, first, count, &mut image, &mut memory)
+}
+
+// The same over lent memories, some points at a time.
+fn run_batches(
+    p: Plan,
+    table: &[u64],
+    first: u64,
+    count: u64,
+    image: &mut [u16],
+    memory: &mut [u16],
+) -> End
+    requires { ⌜ first + count < 2 ^ 64 ⌝ }
+{
+    let words = least(p.words, least(image.len() as u64, memory.len() as u64)) as usize;
+    let mut shown = progress::start();
+    let mut done: u64 = 0;
+    while done < count {
+        let n = least(BATCH, count - done);
+        let end = run_some(
+            p,
+            table,
+            first + done,
+            n,
+            &mut image[0..words],
+            &mut memory[0..words],
+        );
+        if end.status != 0 {
+            return end;
+        }
+        done += n;
+        shown = progress::tell(shown, done, count);
+    }
+    output::done()
+}
+
+// The lines of at most BATCH points.
+fn run_some(
+    p: Plan,
+    table: &[u64],
+    first: u64,
+    count: u64,
+    image: &mut [u16],
+    memory: &mut [u16],
+) -> End {
+    let mut space = [0u8; 10240];
+    let r = run::lines(
+        table,
+        p.axes,
+        p.draw,
+        first,
+        count,
+        image,
+        memory,
+        &mut space,
+    );
+    let n = output::within(r.length, &space);
+    output::lines(&space[..n])
+}
+
+fn least(a: u64, b: u64) -> u64
+    ensures { λ r. ⌜ r ≡ min a b ⌝ }
+{
+    if a < b { a } else { b }
+}

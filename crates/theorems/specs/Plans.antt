@@ -1,0 +1,58 @@
+-- Plans and their runs (demand 2): every statement that a reader must believe. The proofs are in proofs/Plans.antt. Assumes nothing.
+use mathlib.Core.Path.{_≡_}
+use mathlib.Core.Bool.{cond}
+use mathlib.Core.List.{List, _++_}
+use Prim.Native.Nat.{ℕ, _+_, _*_, _≤_, _<_}
+use lib.Dec.{eqb}
+use lib.ListN.{length}
+use Rattle.image.specs.Image.{image}
+use Rattle.points.specs.Axes.{count}
+use Rattle.points.specs.Points.{experiment}
+use Rattle.points.specs.Table.{axesIn, pointsIn}
+use Rattle.points.specs.OneToOne.{OneToOne}
+use Rattle.plan.specs.Reading.{Reading, reading}
+use Rattle.plan.specs.Table.{room, tableAfter}
+use Rattle.listing.specs.Listing.{heading, refusedLine}
+use Rattle.run.specs.Run.{seedOf}
+use Rattle.run.specs.Lines.{pointLines, longest, written}
+
+-- the lines of some points of a plan
+abbrev pub linesFrom : Reading → ℕ → ℕ → List ℕ
+linesFrom r first k = pointLines (r .words) (r .draw) (r .axes) first k
+
+-- What a run of a plan writes: the heading and a line for each point; of a refused plan only `refused`, number, line.
+abbrev pub listing : List ℕ → List ℕ
+listing text =
+    cond (eqb (reading text .answer) 0)
+    (heading ++ linesFrom (reading text) 0 (count (reading text .axes)))
+    (refusedLine (reading text .answer) (reading text .line))
+
+-- Of every accepted plan the numbers below the count and the experiments correspond one to one: each number has an experiment of the
+-- plan, each experiment of the plan has a number, and no two numbers have the same one.
+abbrev pub NumbersAreExperiments : Type 0
+NumbersAreExperiments = (text : List ℕ) → reading text .answer ≡ 0 → OneToOne (reading text .axes)
+
+-- The table that `plan::read` fills has the plan's axes and its points, whatever stood in it.
+abbrev pub TableIsPlan : Type 0
+TableIsPlan =
+    (text t : List ℕ) → room ≤ length t → reading text .answer ≡ 0
+    → (axesIn (length (reading text .axes)) (tableAfter text t) ≡ reading text .axes)
+    × (pointsIn (length (reading text .axes)) (tableAfter text t) ≡ count (reading text .axes))
+
+-- What `run::lines` writes over that table are the plan's own lines: for any part of the points, any table, and any output with room.
+abbrev pub RunIsListing : Type 0
+RunIsListing =
+    (text t : List ℕ) (first k size : ℕ) → room ≤ length t → reading text .answer ≡ 0 → first + k ≤ count (reading text .axes) → longest * k ≤ size
+    → written (reading text .words) (reading text .words) size (reading text .draw) (length (reading text .axes)) (tableAfter text t) first k
+    ≡ linesFrom (reading text) first k
+
+-- Parts joined in order are the whole: a listing can be cut anywhere.
+abbrev pub PartsJoin : Type 0
+PartsJoin = (r : Reading) (first j k : ℕ) → linesFrom r first (j + k) ≡ linesFrom r first j ++ linesFrom r (first + j) k
+
+-- Every 64-bit seed arrives whole: over a memory of four or more words, points with the same image have the same SEED.
+abbrev pub SeedsArrive : Type 0
+SeedsArrive =
+    (text : List ℕ) (m n : ℕ) → reading text .answer ≡ 0 → 4 ≤ reading text .words
+    → image (reading text .words) (seedOf (experiment (reading text .axes) m)) ≡ image (reading text .words) (seedOf (experiment (reading text .axes) n))
+    → seedOf (experiment (reading text .axes) m) ≡ seedOf (experiment (reading text .axes) n)
