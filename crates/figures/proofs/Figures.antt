@@ -18,10 +18,12 @@ use Rattle.drawing.specs.Array.{part, vAfter, destStart, srcStart, drawingOf}
 use Rattle.drawing.specs.Refusal.{refusalOf}
 use Rattle.drawing.specs.Refusal as drawing
 use Rattle.drawing.specs.Draw.{outcomeAt, outcome}
+use Rattle.points.specs.Axes.{count}
+use Rattle.points.specs.Points.{indices}
 use Rattle.figures.specs.Figures.{Figures}
 
 pub figures : Figures
-unfolding bitOf bitAt number refusal register fieldRead caseOf stepped any first anyPair refused latest lookup fetched operations processed pixelOf result pixelAfter withPixel wordAfter xyAddress badXYPitch common clipped addressOf reaches leavesMemory xyDestination lone.refusal dravOf part vAfter destStart srcStart drawingOf refusalOf drawing.refusal outcomeAt outcome
+unfolding bitOf bitAt number refusal register fieldRead caseOf stepped any first anyPair refused latest lookup fetched operations processed pixelOf result pixelAfter withPixel wordAfter xyAddress badXYPitch common clipped addressOf reaches leavesMemory xyDestination lone.refusal dravOf part vAfter destStart srcStart drawingOf refusalOf drawing.refusal outcomeAt outcome count indices
 figures =
     record {
       field = refl;
@@ -42,6 +44,8 @@ figures =
       fill = refl;
       fill-short = refl;
       seed = refl;
+      point = refl;
+      point-past = refl;
       drav = refl;
       fetches = refl;
     }

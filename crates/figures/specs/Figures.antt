@@ -27,6 +27,13 @@ use Rattle.pixt.specs.Drav.{dravOf}
 use Rattle.drawing.specs.Refusal.{refusal}
 use Rattle.drawing.specs.Draw.{outcome}
 use Rattle.drawing.specs.declared.Operation.the-variants.{FillXY}
+use Rattle.points.specs.Axes.{Axis}
+use Rattle.points.specs.Points.{indices}
+use Rattle.points.specs.Points as points
+
+-- axes of 2 and 3 values
+abbrev pub twoAndThree : List Axis
+twoAndThree = record { name = 0; values = 0 ∷ 1 ∷ [] } ∷ record { name = 1; values = 0 ∷ 1 ∷ 2 ∷ [] } ∷ []
 
 -- the kinds of a run of fetches with CD 0, each over the state that the one before handed back
 abbrev pub kinds : Cache → List ℕ → List Kind
@@ -105,6 +112,9 @@ pub record Figures : Type 0 where
   pub fill-short : refusal FillXY filling 0 11207 ≡ 17
   -- seed 1: first words 2041h, 4082h, 0, 0
   pub seed : image 4 1 ≡ 0x2041 ∷ 0x4082 ∷ 0 ∷ 0 ∷ []
+  -- axes of 2 and 3 values: point 4 has indices 1 and 1; point 6 gives 24
+  pub point : indices twoAndThree 4 ≡ 1 ∷ 1 ∷ []
+  pub point-past : points.refusal twoAndThree 6 ≡ 24
   -- DRAV from 0000FFFFh with step 1, W=3, window from 0,0: not drawn, V=1, new point 0
   pub drav : dravOf windowed false 0x0000FFFF 1 (xyDestination 64 windowed 0x0000FFFF false)
       ≡ record { answer = 0; visited = 0; v = true; request = false; point = 0; settings = windowed }

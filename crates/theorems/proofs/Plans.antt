@@ -42,7 +42,7 @@ written-of words size draw axes first k t b p = rw (b, p)
 
 shape-of : (words k size : ℕ) → 1 ≤ words → words ≤ 32768 → longest * k ≤ size → badShape words words k size ≡ false
 shape-of words k size l h r =
-    rw (ne-eqb words 0 (omega arith), le-ltb words 32768 h, eq-eqb words words refl, le-ltb size (longest * k) r)
+    rw (ne-eqb words 0 (omega arith), le-ltb 32768 words h, eq-eqb words words refl, le-ltb size (longest * k) r)
 
 pub run-is-listing : RunIsListing
 run-is-listing text t first k size h e l r =
@@ -51,18 +51,26 @@ run-is-listing text t first k size h e l r =
     written-of _ size _ _ first k _ (shape-of _ k size (a .some-words) (a .words-le) r) (rw (p .1) (le-ltb _ _ l))
     ∙ ap (λ (axes : List Axis). pointLines (reading text .words) (reading text .draw) axes first k) (p .0)
 
+zero-sum : (n : ℕ) → 0 + n ≡ n
+zero-sum n = omega arith
+
+sum-zero : (n : ℕ) → n + 0 ≡ n
+sum-zero n = omega arith
+
+suc-sum : (m n : ℕ) → suc m + n ≡ suc (m + n)
+suc-sum m n = omega arith
+
+sum-suc : (m n : ℕ) → suc m + n ≡ m + suc n
+sum-suc m n = omega arith
+
 pub parts-join : PartsJoin
 unfolding pointLines
-parts-join r first zero k = ap (λ (n : ℕ). linesFrom r n k) (sym (add-zero first))
-  where
-    add-zero : (n : ℕ) → n + 0 ≡ n
-    add-zero n = omega arith
+parts-join r first zero k = rw (zero-sum k, sum-zero first)
 parts-join r first (suc j) k =
-    ap (λ (ls : List ℕ). pointLine (r .words) (r .draw) (r .axes) first ++ ls) (parts-join r (suc first) j k ∙ ap (λ (n : ℕ). linesFrom r (suc first) j ++ linesFrom r n k) (shift first j))
-    ∙ sym (append-assoc _ _ _)
-  where
-    shift : (m n : ℕ) → suc m + n ≡ m + suc n
-    shift m n = omega arith
+    ap (λ (n : ℕ). linesFrom r first n) (suc-sum j k)
+    ∙ ap (λ (ls : List ℕ). pointLine (r .words) (r .draw) (r .axes) first ++ ls)
+    (parts-join r (suc first) j k ∙ ap (λ (n : ℕ). linesFrom r (suc first) j ++ linesFrom r n k) (sum-suc first j))
+    ∙ sym (append-assoc (pointLine (r .words) (r .draw) (r .axes) first) (linesFrom r (suc first) j) (linesFrom r (first + suc j) k))
 
 pub seeds-arrive : SeedsArrive
 unfolding limit
