@@ -1,11 +1,12 @@
 -- The loop of a run of points: what holds at its start, what a turn keeps, and what follows at the end. Assumes nothing.
 use mathlib.Core.Path.{_≡_, refl, sym, ap, _∙_}
 use mathlib.Core.Bool.{false, true, true≢false}
-use mathlib.Core.List.{List, [], _++_}
-use Prim.Native.Nat.{ℕ, zero, suc, _+_, _*_, _<_, _≤_}
+use mathlib.Core.List.{List}
+use Prim.Native.Nat.{ℕ, _+_, _*_, _<_, _≤_}
 use native.Mathlib.Nat.{zero-add}
 use native.Mathlib.Numerals.{add-one}
 use native.Mathlib.Omega.{arith}
+use borrow.Author.Tests.{le-leb}
 use lib.ListN.{length, length-append}
 use Rattle.image.specs.Image.{image}
 use Rattle.image.proofs.ImageLaws.{length-image}
@@ -14,7 +15,7 @@ use Rattle.drawing.specs.declared.Operation.{Operation}
 use Rattle.drawing.specs.Draw.{drawn}
 use Rattle.points.specs.Axes.{Axis}
 use Rattle.points.specs.Points.{experiment}
-use Rattle.listing.specs.Listing.{put}
+use Rattle.listing.specs.Listing.{put, putIf, after}
 use Rattle.listing.proofs.ListingLaws.{put-put, length-put}
 use Rattle.run.specs.declared.Progress.{Progress}
 use Rattle.run.specs.declared.Ran.{Ran}
@@ -22,6 +23,11 @@ use Rattle.run.specs.Run.{operationOf, settingsOf, seedOf, whole, ranOve
 use Rattle.run.specs.Lines.{pointLines, longest, afterLast}
 use Rattle.run.specs.Progress.{Holds, progressed}
 use Rattle.run.proofs.LinesLaws.{length-pointLine, length-pointLines, pointLines-next}
+
+-- bytes that fit are put
+pub line-placed : (at : ℕ) (bs bs′ out : List ℕ) → bs ≡ bs′ → at + length bs′ ≤ length out → {r : ℕ} {o : List ℕ}
+    → r ≡ after at bs (length out) → o ≡ putIf at bs out → (r ≡ at + length bs′) × (o ≡ put at bs′ out)
+line-placed at bs bs′ out e h er eo = (er ∙ rw (e, le-leb _ _ h), eo ∙ rw (e, le-leb _ _ h))
 
 -- One point, as the code goes: the experiment, its image, its drawing, its line
 module _ (words draw : ℕ) (axes : List Axis) (point : ℕ) (p : Progress) {s : Settings} {seed : ℕ} {op : Operation} {m : List ℕ} {ran : Ran}

@@ -1,5 +1,5 @@
 -- One point of a plan, run (the scope, "Plans and images"). Assumes nothing.
-use mathlib.Core.Bool.{Bool, true, false, cond}
+use mathlib.Core.Bool.{Bool, false, cond}
 use mathlib.Core.List.{List, [], _∷_}
 use Prim.Native.Nat.{ℕ, _-_, _%_, _^_}
 use lib.ListN.{length, getD}

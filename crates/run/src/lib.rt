@@ -1,4 +1,4 @@
-// The points of a plan, run.
+// The points of a plan, run: `lines` puts their listing lines, and has no requires.
 ghost use mathlib.Core.Path.{_≡_};
 ghost use mathlib.Core.Bool.{false};
 ghost use Prim.Native.Nat.{_+_, _*_, _^_, _<_, _≤_};
@@ -212,7 +212,7 @@ fn run_point(
     }
 }
 
-// Runs points one after another.
+// Runs points one after another. An image is made again only where the seed changes.
 fn run_points(
     table: &[u64],
     axes: u64,
@@ -244,7 +244,9 @@ fn run_points(
     p.at
 }
 
-// Runs the points of a plan from a first one on, and puts their listing lines at the start of out.
+// Runs `count` points of a plan from `first` on, and puts their listing lines at the start of out; image and memory are left as the last point
+// left them. With 9 (the memories are not of one size from 1 to 32,768 words, or out has no room for lines of 80 bytes) and 24 (a point is
+// not below the plan's count) nothing changes.
 pub fn lines(
     table: &[u64],
     axes: u64,

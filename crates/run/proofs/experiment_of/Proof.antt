@@ -1,11 +1,8 @@
 -- `run::experiment_of` meets its contract. Assumes nothing.
-use mathlib.Core.Path.{_≡_, refl, ap, _∙_}
-use mathlib.Core.List.{List}
-use Prim.Native.Nat.{ℕ}
+use mathlib.Core.Path.{refl, ap, _∙_}
 use borrow.Author.Needs.{needs}
 use lib.ListN.{replicate}
 use Rattle.points.specs.Points.{experiment}
-use Rattle.points.specs.Table.{axesIn}
 use Rattle.run.specs.Run.{settingsOf, seedOf}
 use Rattle.run.proofs.RunLaws.{outAfter-fourteen}
 use Rattle.run.proofs.experiment_of.Statement.{statement}

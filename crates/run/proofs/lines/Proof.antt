@@ -1,13 +1,12 @@
 -- `run::lines` meets its contract. Assumes nothing.
 use mathlib.Core.Path.{_≡_, sym, ap, _∙_}
-use mathlib.Core.Bool.{true, false}
 use Prim.Native.Nat.{ℕ, _+_, _≤_}
 use native.Mathlib.Omega.{arith}
 use borrow.Author.Needs.{needs}
 use borrow.Author.Tests.{ltb-false}
 use lib.ListN.{length}
 use Rattle.points.specs.Table.{pointsIn}
-use Rattle.run.specs.Lines.{badShape, endsPast, badPoints}
+use Rattle.run.specs.Lines.{endsPast, badPoints}
 use Rattle.run.proofs.AnswerLaws.{shaped, ends-nine, ends-twenty-four, ends-done}
 use Rattle.run.proofs.lines.Statement.{statement}
 use Rattle.run.proofs.lines.Tie as tie

@@ -1,13 +1,10 @@
 -- `run::prepare` meets its contract. Assumes nothing.
-use mathlib.Core.Path.{_≡_, sym, ap, _∙_}
-use mathlib.Core.Bool.{_&&_}
-use Prim.Native.Nat.{ℕ}
+use mathlib.Core.Path.{_∙_}
 use borrow.Author.Needs.{needs}
 use borrow.Author.Tests.{eqb-true}
 use lib.Dec.{eqb}
-use lib.ListN.{length}
 use Rattle.memory.proofs.Tests.{and-true-left, and-true-right}
-use Rattle.image.specs.Image.{image, imaged}
+use Rattle.image.specs.Image.{imaged}
 use Rattle.run.proofs.prepare.Statement.{statement}
 use Rattle.run.proofs.prepare.Tie as tie
 

@@ -1,0 +1,24 @@
+-- The listing lines of the scope's plan, by computing. Assumes nothing.
+use mathlib.Core.Path.{refl}
+use Rattle.memory.specs.Bits.{bitOf, bitAt}
+use Rattle.memory.specs.Changed.{differing, changedBits}
+use Rattle.image.specs.Image.{stepped}
+use Rattle.pixel.specs.PixelOp.{operations, processed}
+use Rattle.pixel.specs.Pixel.{pixelOf, result, pixelAfter, withPixel, wordAfter, plotted}
+use Rattle.geometry.specs.Address.{xyAddress, badXYPitch}
+use Rattle.geometry.specs.Window.{common, clipped}
+use Rattle.geometry.specs.Walk.{addressOf, reaches, leavesMemory}
+use Rattle.engine.specs.Engine.{sourceAt, drawnAt, visits}
+use Rattle.drawing.specs.Array.{part, vAfter, destStart, srcStart, drawingOf}
+use Rattle.drawing.specs.Refusal.{refusalOf, refusal}
+use Rattle.drawing.specs.Draw.{outcomeAt, outcome, drawn}
+use Rattle.points.specs.Axes.{count}
+use Rattle.points.specs.Points.{indices, assigned, experiment}
+use Rattle.listing.specs.Listing.{digits, numbersLine}
+use Rattle.run.specs.Run.{ranOver, pointLine}
+use Rattle.run.specs.Lines.{pointLines}
+use Rattle.run.specs.Example.{Example}
+
+pub example : Example
+unfolding bitOf bitAt differing changedBits stepped operations processed pixelOf result pixelAfter withPixel wordAfter plotted xyAddress badXYPitch common clipped addressOf reaches leavesMemory sourceAt drawnAt visits part vAfter destStart srcStart drawingOf refusalOf refusal outcomeAt outcome drawn count indices assigned experiment digits numbersLine ranOver pointLine pointLines
+example = refl
