@@ -5,7 +5,6 @@ use mathlib.Core.List.{List, _++_}
 use Prim.Native.Nat.{ℕ, _+_, _*_, _≤_, _<_}
 use lib.Dec.{eqb}
 use lib.ListN.{length}
-use Rattle.image.specs.Image.{image}
 use Rattle.points.specs.Axes.{count}
 use Rattle.points.specs.Points.{experiment}
 use Rattle.points.specs.Table.{axesIn, pointsIn}
@@ -13,7 +12,8 @@ use Rattle.points.specs.OneToOne.{OneToOne}
 use Rattle.plan.specs.Reading.{Reading, reading}
 use Rattle.plan.specs.Table.{room, tableAfter}
 use Rattle.listing.specs.Listing.{heading, refusedLine}
-use Rattle.run.specs.Run.{seedOf}
+use Rattle.run.specs.Run.{settingsOf, seedOf, imageFor}
+use Rattle.run.specs.Values.{asGiven}
 use Rattle.run.specs.Lines.{pointLines, longest, written}
 
 -- the lines of some points of a plan
@@ -50,9 +50,12 @@ RunIsListing =
 abbrev pub PartsJoin : Type 0
 PartsJoin = (r : Reading) (first j k : ℕ) → linesFrom r first (j + k) ≡ linesFrom r first j ++ linesFrom r (first + j) k
 
--- Every 64-bit seed arrives whole: over a memory of four or more words, points with the same image have the same SEED.
+-- Every value arrives whole: the drawing takes the settings of an experiment as they are.
+abbrev pub SettingsArrive : Type 0
+SettingsArrive = (text : List ℕ) (n : ℕ) → settingsOf (experiment (reading text .axes) n) ≡ asGiven (experiment (reading text .axes) n)
+
+-- All 64 bits of a seed arrive: over a memory of four or more words, points with the same image have the same SEED.
 abbrev pub SeedsArrive : Type 0
 SeedsArrive =
-    (text : List ℕ) (m n : ℕ) → reading text .answer ≡ 0 → 4 ≤ reading text .words
-    → image (reading text .words) (seedOf (experiment (reading text .axes) m)) ≡ image (reading text .words) (seedOf (experiment (reading text .axes) n))
+    (text : List ℕ) (m n words : ℕ) → 4 ≤ words → imageFor words (experiment (reading text .axes) m) ≡ imageFor words (experiment (reading text .axes) n)
     → seedOf (experiment (reading text .axes) m) ≡ seedOf (experiment (reading text .axes) n)
