@@ -1,6 +1,6 @@
 -- Laws of computed tests that the kit lacks. No contract cites this file. Assumes nothing.
 use mathlib.Core.Path.{_≡_, refl, sym}
-use mathlib.Core.Bool.{Bool, true, false, true≢false, cond, _||_, or-assoc, or-comm}
+use mathlib.Core.Bool.{Bool, true, false, true≢false, cond, _&&_, _||_, or-assoc, or-comm}
 use Prim.Native.Nat.{ℕ, suc}
 use borrow.Author.Tests.{eqb-true, eqb-false, eq-eqb, ne-eqb}
 use lib.Dec.{eqb}
@@ -8,6 +8,10 @@ use lib.Dec.{eqb}
 pub or-eq-false : (a b : Bool) → (a || b) ≡ false → (a ≡ false) × (b ≡ false)
 or-eq-false true b e = absurd (true≢false e)
 or-eq-false false b e = (refl, e)
+
+pub and-eq-true : (a b : Bool) → (a && b) ≡ true → (a ≡ true) × (b ≡ true)
+and-eq-true true b e = (refl, e)
+and-eq-true false b e = absurd (true≢false (sym e))
 
 pub or-left-comm : (a b c : Bool) → (a || (b || c)) ≡ (b || (a || c))
 or-left-comm a b c = rw (← or-assoc a b c, or-comm a b) (or-assoc b a c)
@@ -19,6 +23,15 @@ or-swap false b c d = or-left-comm b c d
 pub cond-same : {A : Type 0} (b : Bool) (x : A) → cond b x x ≡ x
 cond-same true x = refl
 cond-same false x = refl
+
+-- what holds of either, where it is chosen
+pub cond-both : {A : Type 0} (P : A → Type 0) (b : Bool) (x y : A) → (b ≡ true → P x) → (b ≡ false → P y) → P (cond b x y)
+cond-both P true x y f g = f refl
+cond-both P false x y f g = g refl
+
+pub cond-zero : (b : Bool) {n m : ℕ} → (n ≡ 0 → ⊥) → cond b n m ≡ 0 → (b ≡ false) × (m ≡ 0)
+cond-zero true h e = absurd (h e)
+cond-zero false h e = (refl, e)
 
 pub suc-cond : (b : Bool) (x y : ℕ) → suc (cond b x y) ≡ cond b (suc x) (suc y)
 suc-cond true x y = refl

@@ -1,5 +1,5 @@
 -- The loop over the axis lines: what holds at its start, what a turn keeps, and what follows at its ends. Assumes nothing.
-use mathlib.Core.Path.{_≡_, refl, sym, ap, _∙_}
+use mathlib.Core.Path.{_≡_, sym, ap, _∙_}
 use mathlib.Core.Bool.{false}
 use mathlib.Core.List.{List, [], _∷_, _++_}
 use Prim.Native.Nat.{ℕ, _+_, _<_, _≤_}
@@ -13,12 +13,12 @@ use Rattle.line.specs.Line.{nameOf, valuesOf, axisOf, axisRefusal, storedAt}
 use Rattle.plan.specs.declared.Plan.{Plan}
 use Rattle.plan.specs.declared.Cursor.{Cursor}
 use Rattle.plan.specs.declared.Held.{Held}
-use Rattle.plan.specs.Reading.{Line, Reading, axisLines}
+use Rattle.plan.specs.Reading.{Reading, axisLines}
 use Rattle.plan.specs.Table.{refusedPlan, acceptedPlan, stored, Handed}
-use Rattle.plan.specs.Cursor.{lineAt, linesFrom, Place, Next}
+use Rattle.plan.specs.Cursor.{lineAt, linesFrom, Next}
 use Rattle.plan.specs.Held.{heldRefusal, heldAfter, HasRoom, entryOf}
 use Rattle.plan.proofs.ReadingLaws.{axes-end, axes-last, axes-bad, axes-next}
-use Rattle.plan.proofs.CursorLaws.{numbered, linesBehind, some-behind, next-here, next-line, next-last}
+use Rattle.plan.proofs.CursorLaws.{lineOf, linesBehind, some-behind, next-here, next-line, next-last}
 use Rattle.plan.proofs.AxisLaws.{Good, good}
 use Rattle.plan.proofs.TableLaws.{stored-next, length-stored}
 use Rattle.plan.proofs.HeldLaws.{Holds, holds-none, holds-next, heldRefusal-is, has-room}
@@ -49,15 +49,12 @@ no-axes {t = t} words draw h n =
     }
 
 module _ {text t : List ℕ} {r : Reading} {words draw : ℕ} {table : List ℕ} {held : Held} {c : Cursor} (i : AxesRead text t r words draw table held c) where
-  table-room : length (i .axes) ≤ 8 → length (stored (i .axes) t) ≡ length t
-  table-room h = length-stored (i .axes) t (omega (arith, i .room, length-tableOf-le (i .axes) (i .sound .lengths), h))
-
   pub same-table : length table ≡ length t
-  same-table = ap length (i .table-is) ∙ table-room (i .sound .few)
+  same-table = ap length (i .table-is) ∙ length-stored (i .axes) t (omega (arith, i .room, length-tableOf-le (i .axes) (i .sound .lengths), i .sound .few))
 
   -- at a line that is ended, and is this one
   module _ (ended : c .end < length text) (line : List ℕ) (is : line ≡ lineAt text (c .at)) where
-    lines : linesFrom text (c .at) (c .line) ≡ numbered c line ∷ linesBehind text c
+    lines : linesFrom text (c .at) (c .line) ≡ lineOf c line ∷ linesBehind text c
     lines = next-line (i .next) ended is
 
     module _ {number : ℕ} (refusal : number ≡ heldRefusal held (fieldsOf line)) where
@@ -68,7 +65,7 @@ module _ {text t : List ℕ} {r : Reading} {words draw : ℕ} {table : List ℕ}
       pub turn-refused : {plan : Plan} → (number ≡ 0 → ⊥) → plan ≡ refusedPlan number (c .line) → Handed r t plan table
       turn-refused n p =
           handed-refused n
-          (i .ahead ∙ rw (lines, refusal-is) (axes-bad words draw (i .axes) (numbered c line) (linesBehind text c) (some-behind text c) (λ z. n (refusal-is ∙ z))))
+          (i .ahead ∙ rw (lines, refusal-is) (axes-bad words draw (i .axes) (lineOf c line) (linesBehind text c) (some-behind text c) (λ z. n (refusal-is ∙ z))))
           p (i .table-is)
 
       module _ (zero-is : number ≡ 0) where
@@ -98,13 +95,13 @@ module _ {text t : List ℕ} {r : Reading} {words draw : ℕ} {table : List ℕ}
               next = next-here n;
               ahead =
                   i .ahead
-                  ∙ rw lines (axes-next words draw (i .axes) (numbered c line) (linesBehind text c) (some-behind text c) (sym refusal-is ∙ zero-is))
+                  ∙ rw lines (axes-next words draw (i .axes) (lineOf c line) (linesBehind text c) (some-behind text c) (sym refusal-is ∙ zero-is))
                   ∙ ap (axisLines words draw (i .axes ++ (a ∷ []))) (n .reached .lines);
             }
 
   -- behind the last line
   module _ (last : length text ≤ c .end) where
-    rest : linesFrom text (c .at) (c .line) ≡ numbered c (drop (c .at) text) ∷ []
+    rest : linesFrom text (c .at) (c .line) ≡ lineOf c (drop (c .at) text) ∷ []
     rest = next-last (i .next) last
 
     -- where something follows it

@@ -1,14 +1,14 @@
 -- What is known of an axis line that is not refused. No contract cites this file. Assumes nothing.
-use mathlib.Core.Path.{_≡_, refl, sym, ap, _∙_}
-use mathlib.Core.Bool.{Bool, true, false, true≢false, cond, not, _||_}
-use mathlib.Core.List.{List, [], _∷_, map}
+use mathlib.Core.Path.{_≡_}
+use mathlib.Core.Bool.{Bool, true, false, true≢false}
+use mathlib.Core.List.{List, [], _∷_}
 use Prim.Native.Nat.{ℕ, _<_, _≤_}
 use native.Mathlib.Omega.{arith}
 use borrow.Author.Tests.{ltb-false, leb-false}
-use lib.Dec.{eqb, ltb, leb}
-use lib.ListN.{length, getD, drop}
+use lib.Dec.{eqb, leb}
+use lib.ListN.{length}
 use Rattle.lists.specs.Search.{any, anyPair}
-use Rattle.lists.proofs.TestLaws.{or-eq-false}
+use Rattle.lists.proofs.TestLaws.{or-eq-false, cond-zero}
 use Rattle.points.specs.Axes.{Axis, limit}
 use Rattle.line.specs.Line.{nameOf, valuesOf, badForm, badName, badValues, tooMany, refusal, axisRefusal}
 
@@ -25,10 +25,6 @@ pub record Good (axes : List Axis) (fields : List (List ℕ)) : Type 0 where
   pub some : 1 ≤ length (valuesOf fields)
   pub few : length (valuesOf fields) ≤ 64
   pub room : length axes < 8
-
-cond-zero : (b : Bool) {n m : ℕ} → (n ≡ 0 → ⊥) → cond b n m ≡ 0 → (b ≡ false) × (m ≡ 0)
-cond-zero true h e = absurd (h e)
-cond-zero false h e = (refl, e)
 
 some-values : (fields : List (List ℕ)) → badForm fields ≡ false → 1 ≤ length (valuesOf fields)
 unfolding badForm valuesOf

@@ -1,25 +1,22 @@
 -- Laws of `specs/Cursor.antt`. No contract cites this file. Assumes nothing.
-use mathlib.Core.Path.{_≡_, refl, sym, ap, _∙_}
-use mathlib.Core.Bool.{Bool, true, false, true≢false, cond, _&&_}
+use mathlib.Core.Path.{_≡_, refl, ap, _∙_}
+use mathlib.Core.Bool.{Bool, true, false, cond}
 use mathlib.Core.List.{List, [], _∷_}
 use Prim.Native.Nat.{ℕ, _+_, _<_, _≤_}
 use native.Mathlib.Nat.{add-zero}
 use native.Mathlib.Numerals.{add-one}
 use native.Mathlib.Omega.{arith}
 use borrow.Author.Tests.{ltb-true, lt-ltb, le-ltb}
-use lib.Dec.{eqb, ltb}
-use lib.ListN.{length, getD, drop, length-drop}
+use lib.Dec.{eqb}
+use lib.ListN.{length, getD, drop}
 use lib.Seq.{getD-drop}
-use Rattle.text.specs.Text.{upTo, parts}
+use Rattle.text.specs.Text.{upTo}
 use Rattle.text.proofs.TextLaws.{part-end-le, parts-before, parts-last}
 use Rattle.plan.specs.declared.Cursor.{Cursor}
 use Rattle.plan.specs.Reading.{Line, skipped, kept}
 use Rattle.plan.specs.Cursor.{lineAt, linesFrom, skippedAt, Place, Reached, Next}
+use Rattle.lists.proofs.TestLaws.{and-eq-true}
 use Rattle.plan.proofs.ReadingLaws.{parts-some, kept-some, kept-skip, kept-keep, kept-last}
-
-and-eq-true : (a b : Bool) → (a && b) ≡ true → (a ≡ true) × (b ≡ true)
-and-eq-true true b e = (refl, e)
-and-eq-true false b e = absurd (true≢false (sym e))
 
 -- The test of a line
 
@@ -98,8 +95,8 @@ module _ {text : List ℕ} {from number : ℕ} where
 
 -- The line that is next
 
-abbrev pub numbered : Cursor → List ℕ → Line
-numbered c line = record { number = c .line; bytes = line }
+abbrev pub lineOf : Cursor → List ℕ → Line
+lineOf c line = record { number = c .line; bytes = line }
 
 abbrev pub linesBehind : List ℕ → Cursor → List Line
 linesBehind text c = linesFrom text (c .end + 1) (c .line + 1)
@@ -120,9 +117,9 @@ module _ {text : List ℕ} {from number : ℕ} {c : Cursor} (n : Next text from 
     pub next-place : Place text (c .end + 1) (c .line + 1)
     next-place = record { within = omega arith; numbered = omega (arith, n .reached .place .numbered, n .reached .ends) }
 
-    pub next-line : {line : List ℕ} → line ≡ lineAt text (c .at) → linesFrom text from number ≡ numbered c line ∷ linesBehind text c
+    pub next-line : {line : List ℕ} → line ≡ lineAt text (c .at) → linesFrom text from number ≡ lineOf c line ∷ linesBehind text c
     next-line is = n .reached .lines ∙ rw is (lines-keep text (c .at) (c .end) (c .line) (n .reached .ends) ended (n .stays))
 
   -- what follows the last line
-  pub next-last : length text ≤ c .end → linesFrom text from number ≡ numbered c (drop (c .at) text) ∷ []
+  pub next-last : length text ≤ c .end → linesFrom text from number ≡ lineOf c (drop (c .at) text) ∷ []
   next-last h = n .reached .lines ∙ lines-last text (c .at) (c .end) (c .line) (n .reached .ends) h

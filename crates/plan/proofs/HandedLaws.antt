@@ -8,7 +8,7 @@ use lib.ListN.{length}
 use Rattle.points.specs.Axes.{Axis, count}
 use Rattle.points.specs.Table.{tableOf}
 use Rattle.plan.specs.declared.Plan.{Plan}
-use Rattle.plan.specs.Reading.{Reading, accepted, refusedAt, memoryLine, reading}
+use Rattle.plan.specs.Reading.{Reading, accepted, refusedAt, memoryLine, textLimit, reading}
 use Rattle.plan.specs.Table.{room, refusedPlan, acceptedPlan, planOf, stored, Handed, tableAfter}
 use Rattle.plan.specs.Cursor.{linesFrom}
 
@@ -40,10 +40,10 @@ module _ (text t : List ℕ) {plan : Plan} {table : List ℕ} where
     unfolding planOf tableAfter
     answered d = rw (le-ltb _ _ h) (d .plan-is, d .table-is)
 
-    pub answered-long : 65536 < length text → plan ≡ refusedPlan 20 1 → table ≡ t → Answered text t plan table
+    pub answered-long : textLimit < length text → plan ≡ refusedPlan 20 1 → table ≡ t → Answered text t plan table
     unfolding reading
     answered-long l p s = answered (handed-refused (λ z. omega arith) (rw (lt-ltb _ _ l)) p (s ∙ stored-none t))
 
-    pub answered-lines : length text ≤ 65536 → Handed (memoryLine (linesFrom text 0 1)) t plan table → Answered text t plan table
+    pub answered-lines : length text ≤ textLimit → Handed (memoryLine (linesFrom text 0 1)) t plan table → Answered text t plan table
     unfolding reading
     answered-lines l d = answered (rw (le-ltb _ _ l) d)

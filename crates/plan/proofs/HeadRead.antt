@@ -1,7 +1,7 @@
 -- The memory line and the draw line: what is handed back where one is missing or bad, and where one is good. Assumes nothing.
-use mathlib.Core.Path.{_≡_, refl, sym, ap, _∙_}
-use mathlib.Core.List.{List, [], _∷_}
-use Prim.Native.Nat.{ℕ, _+_, _<_, _≤_}
+use mathlib.Core.Path.{_≡_, sym, _∙_}
+use mathlib.Core.List.{List, []}
+use Prim.Native.Nat.{ℕ, _<_, _≤_}
 use native.Mathlib.Omega.{arith}
 use lib.ListN.{length}
 use Rattle.text.specs.Text.{fieldsOf}
@@ -12,7 +12,7 @@ use Rattle.plan.specs.Reading.{Reading, refusedAt, axisLines, drawLine, 
 use Rattle.plan.specs.Table.{refusedPlan, Handed}
 use Rattle.plan.specs.Cursor.{lineAt, linesFrom, Next}
 use Rattle.plan.proofs.ReadingLaws.{memory-last, memory-bad, memory-next, draw-last, draw-bad, draw-next}
-use Rattle.plan.proofs.CursorLaws.{numbered, linesBehind, some-behind, next-line, next-last}
+use Rattle.plan.proofs.CursorLaws.{lineOf, linesBehind, some-behind, next-line, next-last}
 use Rattle.plan.proofs.HandedLaws.{stored-none, handed-refused}
 
 -- 20 at a line, before any axis
@@ -42,10 +42,10 @@ module _ {text t : List ℕ} {from number : ℕ} {c : Cursor} {plan : Plan} (n :
     pub memory-read : {words : ℕ} {table : List ℕ} → words ≡ memoryOf (fieldsOf line) → (words ≡ 0 → ⊥)
         → Handed (drawLine words (linesBehind text c)) t plan table → Handed (memoryLine (linesFrom text from number)) t plan table
     memory-read e z h =
-        rw (next-line n ended is, memory-next (numbered c line) (linesBehind text c) (some-behind text c) (λ q. z (e ∙ q)), ← e) h
+        rw (next-line n ended is, memory-next (lineOf c line) (linesBehind text c) (some-behind text c) (λ q. z (e ∙ q)), ← e) h
 
     pub draw-read : (words : ℕ) {draw : ℕ} {table : List ℕ} → draw ≡ drawOf (fieldsOf line) → draw < 8
         → Handed (axisLines words draw [] (linesBehind text c)) t plan table
         → Handed (drawLine words (linesFrom text from number)) t plan table
     draw-read words e l h =
-        rw (next-line n ended is, draw-next words (numbered c line) (linesBehind text c) (some-behind text c) (omega (arith, e, l)), ← e) h
+        rw (next-line n ended is, draw-next words (lineOf c line) (linesBehind text c) (some-behind text c) (omega (arith, e, l)), ← e) h

@@ -5,6 +5,7 @@ pub mod TableLaws
 pub mod HeldLaws
 pub mod SoundLaws
 pub mod AcceptedLaws
+pub mod PlanLaws
 pub mod HandedLaws
 pub mod HeadRead
 pub mod AxesRead

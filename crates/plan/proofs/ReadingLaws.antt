@@ -1,38 +1,35 @@
 -- Laws of `specs/Reading.antt`: a line taken from the front. No contract cites this file. Assumes nothing.
-use mathlib.Core.Path.{_≡_, refl, ap, _∙_}
-use mathlib.Core.Bool.{Bool, true, false, cond}
+use mathlib.Core.Path.{_≡_, refl}
+use mathlib.Core.Bool.{true, false}
 use mathlib.Core.List.{List, [], _∷_, _++_}
-use Prim.Native.Nat.{ℕ, suc, _+_, _<_, _≤_}
+use Prim.Native.Nat.{ℕ, suc, _<_, _≤_}
 use native.Mathlib.Omega.{arith}
 use borrow.Author.Tests.{eq-eqb, ne-eqb, lt-ltb, le-ltb}
-use lib.Dec.{eqb, ltb}
+use lib.Dec.{eqb}
 use lib.ListN.{length}
 use Rattle.text.specs.Text.{before, parts, fieldsOf}
 use Rattle.points.specs.Axes.{Axis}
 use Rattle.line.specs.Line.{memoryOf, drawOf, axisOf, axisRefusal}
-use Rattle.plan.specs.Reading.{Line, skipped, kept, Reading, accepted, refusedAt, axisLines, drawLine, memoryLine}
+use Rattle.plan.specs.Reading.{Line, skipped, kept, accepted, refusedAt, axisLines, drawLine, memoryLine}
+use Rattle.lists.proofs.TestLaws.{cond-both}
 
 -- There is always a line
 
 pub parts-some : (mark : ℕ) (s : List ℕ) → 0 < length (parts mark s)
 unfolding before parts
 parts-some mark [] = omega arith
-parts-some mark (c ∷ s) = go (eqb c mark) (parts mark s)
+parts-some mark (c ∷ s) = cond-both (λ (ps : List (List ℕ)). 0 < length ps) (eqb c mark) _ _ (λ e. omega arith) (λ e. before-some (parts mark s))
   where
-    go : (b : Bool) (ps : List (List ℕ)) → 0 < length (cond b ([] ∷ ps) (before c ps))
-    go true ps = omega arith
-    go false [] = omega arith
-    go false (p ∷ ps) = omega arith
+    before-some : (ps : List (List ℕ)) → 0 < length (before c ps)
+    before-some [] = omega arith
+    before-some (p ∷ ps) = omega arith
 
 pub kept-some : (n : ℕ) (ls : List (List ℕ)) → 0 < length ls → 0 < length (kept n ls)
 unfolding kept
 kept-some n [] h = h
 kept-some n (l ∷ []) h = omega arith
-kept-some n (l ∷ m ∷ ls) h = go (skipped l) _ (kept-some (suc n) (m ∷ ls) (omega arith))
-  where
-    go : (b : Bool) (ks : List Line) → 0 < length ks → 0 < length (cond b ks (record { number = n; bytes = l } ∷ ks))
-    go true ks h = h
-    go false ks h = omega arith
+kept-some n (l ∷ m ∷ ls) h =
+    cond-both (λ (ks : List Line). 0 < length ks) (skipped l) _ _ (λ e. kept-some _ (m ∷ ls) (omega arith)) (λ e. omega arith)
 
 -- A line that is skipped, and one that is not
 

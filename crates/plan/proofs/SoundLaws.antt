@@ -1,21 +1,21 @@
 -- The axes that are read are sound, of a refused plan too. No contract cites this file. Assumes nothing.
-use mathlib.Core.Path.{_≡_, refl, sym, ap, _∙_}
-use mathlib.Core.Bool.{Bool, true, false, cond}
+use mathlib.Core.Path.{_≡_, refl, _∙_}
+use mathlib.Core.Bool.{false}
 use mathlib.Core.List.{List, [], _∷_, _++_}
-use Prim.Native.Nat.{ℕ, _<_, _≤_}
+use Prim.Native.Nat.{ℕ}
 use native.Mathlib.Omega.{arith}
 use borrow.Author.Tests.{lt-leb, le-ltb, ne-eqb, eqb-true}
 use lib.Dec.{eqb, ltb}
 use lib.ListN.{length, length-append}
 use Rattle.lists.specs.Search.{any, anyPair}
-use Rattle.lists.proofs.TestLaws.{eqb-comm}
+use Rattle.lists.proofs.TestLaws.{cond-both, eqb-comm}
 use Rattle.lists.proofs.SearchLaws.{any-snoc, any-none, anyPair-snoc}
 use Rattle.text.specs.Text.{linesOf, fieldsOf}
 use Rattle.points.specs.Axes.{Axis}
-use Rattle.points.specs.OneToOne.{unknown, isNamed, sameName, badLength, tooLarge, repeats, Sound}
+use Rattle.points.specs.OneToOne.{unknown, sameName, badLength, tooLarge, repeats, Sound}
 use Rattle.line.specs.Line.{memoryOf, drawOf, nameOf, valuesOf, axisOf, axisRefusal}
-use Rattle.plan.specs.Reading.{Line, kept, accepted, refusedAt, axisLines, drawLine, memoryLine, reading}
-use Rattle.plan.proofs.AxisLaws.{cameOn, Good, good}
+use Rattle.plan.specs.Reading.{Line, kept, Reading, textLimit, axisLines, drawLine, memoryLine, reading}
+use Rattle.plan.proofs.AxisLaws.{Good, good}
 
 pub sound-none : Sound []
 unfolding any anyPair
@@ -39,46 +39,31 @@ module _ {axes : List Axis} {fields : List (List ℕ)} (s : Sound axes) (g : Goo
 
 -- The reading of a text
 
+abbrev SoundReading : Reading → Type 0
+SoundReading r = Sound (r .axes)
+
 pub axisLines-sound : (words draw : ℕ) (axes : List Axis) (ls : List Line) → Sound axes → Sound (axisLines words draw axes ls .axes)
 unfolding axisLines
 axisLines-sound words draw axes [] s = s
-axisLines-sound words draw axes (l ∷ []) s = go (eqb (length (l .bytes)) 0)
-  where
-    go : (b : Bool) → Sound (cond b (accepted words draw axes) (refusedAt 20 (l .number) axes) .axes)
-    go true = s
-    go false = s
+axisLines-sound words draw axes (l ∷ []) s = cond-both SoundReading (eqb (length (l .bytes)) 0) _ _ (λ e. s) (λ e. s)
 axisLines-sound words draw axes (l ∷ m ∷ ls) s =
-    go (eqb (axisRefusal axes (fieldsOf (l .bytes))) 0) refl (λ a. axisLines-sound words draw a (m ∷ ls))
-  where
-    go : (b : Bool) → eqb (axisRefusal axes (fieldsOf (l .bytes))) 0 ≡ b → ((a : List Axis) → Sound a → Sound (axisLines words draw a (m ∷ ls) .axes))
-        → Sound (cond b (axisLines words draw (axes ++ (axisOf (fieldsOf (l .bytes)) ∷ [])) (m ∷ ls)) (refusedAt (axisRefusal axes (fieldsOf (l .bytes))) (l .number) axes) .axes)
-    go true e f = f _ (sound-next s (good axes _ (eqb-true _ _ e)))
-    go false e f = s
+    cond-both SoundReading (eqb (axisRefusal axes (fieldsOf (l .bytes))) 0) _ _
+    (λ e. axisLines-sound words draw _ (m ∷ ls) (sound-next s (good axes _ (eqb-true _ _ e)))) (λ e. s)
 
 drawLine-sound : (words : ℕ) (ls : List Line) → Sound (drawLine words ls .axes)
 unfolding drawLine
 drawLine-sound words [] = sound-none
 drawLine-sound words (l ∷ []) = sound-none
-drawLine-sound words (l ∷ m ∷ ls) = go (ltb (drawOf (fieldsOf (l .bytes))) 8)
-  where
-    go : (b : Bool) → Sound (cond b (axisLines words (drawOf (fieldsOf (l .bytes))) [] (m ∷ ls)) (refusedAt 20 (l .number) []) .axes)
-    go true = axisLines-sound words _ [] (m ∷ ls) sound-none
-    go false = sound-none
+drawLine-sound words (l ∷ m ∷ ls) =
+    cond-both SoundReading (ltb (drawOf (fieldsOf (l .bytes))) 8) _ _ (λ e. axisLines-sound words _ [] (m ∷ ls) sound-none) (λ e. sound-none)
 
 memoryLine-sound : (ls : List Line) → Sound (memoryLine ls .axes)
 unfolding memoryLine
 memoryLine-sound [] = sound-none
 memoryLine-sound (l ∷ []) = sound-none
-memoryLine-sound (l ∷ m ∷ ls) = go (eqb (memoryOf (fieldsOf (l .bytes))) 0)
-  where
-    go : (b : Bool) → Sound (cond b (refusedAt 20 (l .number) []) (drawLine (memoryOf (fieldsOf (l .bytes))) (m ∷ ls)) .axes)
-    go true = sound-none
-    go false = drawLine-sound _ (m ∷ ls)
+memoryLine-sound (l ∷ m ∷ ls) =
+    cond-both SoundReading (eqb (memoryOf (fieldsOf (l .bytes))) 0) _ _ (λ e. sound-none) (λ e. drawLine-sound _ (m ∷ ls))
 
 pub reading-sound : (text : List ℕ) → Sound (reading text .axes)
 unfolding reading
-reading-sound text = go (ltb 65536 (length text))
-  where
-    go : (b : Bool) → Sound (cond b (refusedAt 20 1 []) (memoryLine (kept 1 (linesOf text))) .axes)
-    go true = sound-none
-    go false = memoryLine-sound _
+reading-sound text = cond-both SoundReading (ltb textLimit (length text)) _ _ (λ e. sound-none) (λ e. memoryLine-sound (kept 1 (linesOf text)))

@@ -1,11 +1,11 @@
 -- Laws of `specs/Table.antt`: axes stored one after the other, and read back. No contract cites this file. Assumes nothing.
-use mathlib.Core.Path.{_≡_, refl, sym, ap, ap₂, _∙_}
+use mathlib.Core.Path.{_≡_, refl, ap, _∙_}
 use mathlib.Core.List.{List, [], _∷_, _++_, append-nil}
 use Prim.Native.Nat.{ℕ, suc, _+_, _≤_}
 use native.Mathlib.Numerals.{add-one}
 use native.Mathlib.Omega.{arith}
-use lib.ListN.{length, getD, set, take, drop, length-append, length-drop}
-use lib.Seq.{sets, sets-eq, take-append-seam, drop-append-seam, drop-append-add, drop-drop}
+use lib.ListN.{length, set, drop, length-append, length-drop}
+use lib.Seq.{sets, sets-eq, take-append-seam, drop-append-add, drop-drop}
 use Rattle.points.specs.Axes.{Axis}
 use Rattle.points.specs.Table.{tableOf, axesIn}
 use Rattle.points.proofs.TableLaws.{axesIn-tableOf, tableOf-append}

@@ -2,10 +2,7 @@
 use mathlib.Core.Bool.{Bool, true, false}
 use mathlib.Core.List.{List, _∷_}
 use Prim.Native.Nat.{ℕ, _+_, _*_, _^_, _<_, _≤_}
-use lib.Dec.{eqb}
 use lib.ListN.{length, getD, set}
-use Rattle.lists.specs.Search.{any}
-use Rattle.points.specs.Axes.{Axis}
 use Rattle.line.specs.Line.{nameOf, valuesOf, refusal}
 use Rattle.plan.specs.declared.Held.{Held}
 

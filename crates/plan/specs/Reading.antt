@@ -1,8 +1,8 @@
 -- The reading of a plan's text (the scope, "Plans and images"): the first bad line decides. Assumes nothing.
-use mathlib.Core.Bool.{Bool, true, false, cond}
+use mathlib.Core.Bool.{Bool, true, cond}
 use mathlib.Core.List.{List, [], _∷_, _++_}
 use Prim.Native.Nat.{ℕ, suc}
-use lib.Dec.{eqb, ltb, leb}
+use lib.Dec.{eqb, ltb}
 use lib.ListN.{length}
 use Rattle.text.specs.Text.{linesOf, fieldsOf}
 use Rattle.points.specs.Axes.{Axis}
@@ -66,5 +66,8 @@ memoryLine (l ∷ m ∷ ls) =
     (drawLine (memoryOf (fieldsOf (l .bytes))) (m ∷ ls))
 
 -- a text is at most 65,536 bytes, else 20 on line 1
+abbrev pub textLimit : ℕ
+textLimit = 65536
+
 unfoldable pub reading : List ℕ → Reading
-reading text = cond (ltb 65536 (length text)) (refusedAt 20 1 []) (memoryLine (kept 1 (linesOf text)))
+reading text = cond (ltb textLimit (length text)) (refusedAt 20 1 []) (memoryLine (kept 1 (linesOf text)))

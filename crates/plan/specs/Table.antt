@@ -35,10 +35,10 @@ planOf text size = cond (ltb size room) (refusedPlan 9 0) (summary (reading text
 abbrev pub stored : List Axis → List ℕ → List ℕ
 stored axes t = tableOf axes ++ drop (length (tableOf axes)) t
 
--- what is handed back of a reading: its plan, and the table with its axes
+unfoldable pub tableAfter : List ℕ → List ℕ → List ℕ
+tableAfter text t = cond (ltb (length t) room) t (stored (reading text .axes) t)
+
+-- what the functions below `read` hand back of a reading: its plan, and the table with its axes
 pub record Handed (r : Reading) (t : List ℕ) (plan : Plan) (table : List ℕ) : Type 0 where
   pub plan-is : plan ≡ summary r
   pub table-is : table ≡ stored (r .axes) t
-
-unfoldable pub tableAfter : List ℕ → List ℕ → List ℕ
-tableAfter text t = cond (ltb (length t) room) t (stored (reading text .axes) t)

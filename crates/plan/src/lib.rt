@@ -21,7 +21,7 @@ pub struct Plan {
     pub points: u64,
 }
 
-// The plan of a text; its axes are stored at the table's start.
+// The plan of a text. Its axes, or those before its bad line, are stored at the table's start; 9 where that has fewer than 528 elements.
 pub fn read(text: &[u8], table: &mut [u64]) -> Plan
     ensures { λ r. ⌜ (r ≡ planOf (now (text .entry)) (length (now (table .entry)))) × (now (table .exit) ≡ tableAfter (now (text .entry)) (now (table .entry))) ⌝ }
 {
@@ -200,6 +200,7 @@ fn with_axis(held: Held, name: u64, count: u64) -> Held
     }
 }
 
+// An accepted plan.
 fn accepted(words: u64, draw: u64, axes: u64, points: u64) -> Plan
     ensures { λ r. ⌜ r ≡ acceptedPlan words draw axes points ⌝ }
 {
@@ -213,6 +214,7 @@ fn accepted(words: u64, draw: u64, axes: u64, points: u64) -> Plan
     }
 }
 
+// A refused plan.
 fn refused(answer: u32, line: u64) -> Plan
     ensures { λ r. ⌜ r ≡ refusedPlan answer line ⌝ }
 {

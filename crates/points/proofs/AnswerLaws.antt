@@ -14,7 +14,8 @@ use Rattle.points.specs.Axes.{Axis, defaults, count}
 use Rattle.points.specs.Points.{indices, assigned, experiment, refusal}
 use Rattle.points.specs.Table.{axesIn, laterIn, holds, pointsIn, refusalIn, answerFor, outAfter, withDefaults}
 use Rattle.points.specs.OneToOne.{unknown}
-use Rattle.points.proofs.StepLaws.{held, and-eq-true}
+use Rattle.lists.proofs.TestLaws.{and-eq-true}
+use Rattle.points.proofs.StepLaws.{held}
 
 -- a number below the count of points
 pub record Below (k n : ℕ) (t : List ℕ) : Type 0 where

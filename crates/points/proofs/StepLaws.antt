@@ -10,6 +10,7 @@ use borrow.Author.Tests.{not-true, not-false, ltb-true, leb-true, lt-leb}
 use lib.Dec.{ltb, leb, leb·suc-suc}
 use lib.ListN.{length, getD, set, take, drop, length-drop}
 use lib.Seq.{take-all, length-take-le, getD-take, getD-drop}
+use Rattle.lists.proofs.TestLaws.{and-eq-true}
 use Rattle.points.specs.Axes.{count}
 use Rattle.points.specs.Points.{indices, assigned}
 use Rattle.points.specs.Table.{axisIn, axesIn, laterIn, holdsAxis, holds, countIn}
@@ -20,10 +21,6 @@ pub part-drop : (i : ℕ) (t : List ℕ) → take (length t - i) (drop i t) ≡ 
 part-drop i t = take-all (length t - i) (drop i t) (omega (arith, length-drop i t))
 
 -- The test of an axis
-
-pub and-eq-true : (a b : Bool) → (a && b) ≡ true → (a ≡ true) × (b ≡ true)
-and-eq-true true b e = (refl, e)
-and-eq-true false b e = absurd (true≢false (sym e))
 
 pub record Held (t : List ℕ) : Type 0 where
   pub named : getD t 0 0 < 14

@@ -10,13 +10,10 @@ returns c = skippedAt-last (c .before .args .text .now) (c .before .args .at) _ 
 returns-2 : tie.Need-returns-2
 returns-2 c = skippedAt-empty _ _ _ (c .before .before .pre .1) (c .before .if1 .left) (c .if2 .taken)
 
-shared-slice-read-result : tie.Need-shared-slice-read-result
-shared-slice-read-result c = search needs
-
 returns-3 : tie.Need-returns-3
 returns-3 c =
     let s = c .before in
     skippedAt-first _ _ _ (s .before .before .pre .1) (s .before .if1 .left) (s .if2 .left)
 
 pub is-skipped-spec : {M : Type 1} → statement M
-is-skipped-spec = tie.close (tie.spec returns returns-2 shared-slice-read-result returns-3)
+is-skipped-spec = tie.close (tie.spec returns returns-2 (λ c. search needs) returns-3)

@@ -8,19 +8,12 @@ use Rattle.plan.specs.Cursor.{Reached}
 use Rattle.plan.proofs.CursorLaws.{reached-here, reached-next, end-le}
 use Rattle.plan.proofs.next_line.Statement.{statement}
 use Rattle.plan.proofs.next_line.Tie as tie
-use Rattle.plan.proofs.next_line.Reads as reads
-use Rattle.plan.proofs.next_line.Lts as lts
-use Rattle.plan.proofs.is_skipped.Reads as is-skipped-reads
-use Rattle.text.proofs.part_end.Reads as part-end-reads
 
 abbrev Inv-loop : tie.InvT-loop
 Inv-loop text from number at₀ end₀ line₀ at end line = Reached text from number (record { at = at; end = end; line = line })
 
 abbrev μ-loop : tie.MeasureT-loop
 μ-loop text from number at₀ end₀ line₀ at end line = length text - at
-
-part-end-requires : tie.Need-part-end-requires Inv-loop μ-loop
-part-end-requires c κs = search needs
 
 loop-holds : tie.Need-loop-holds Inv-loop μ-loop
 loop-holds c = reached-here (c .before .before .pre) (c .part-end .ensures)
@@ -30,9 +23,6 @@ is-skipped-requires c κs = (c .loop .inv .place .within, c .loop .inv .ends)
 
 add-at : tie.Need-add-at Inv-loop μ-loop
 add-at c = omega (arith, end-le (c .before .before .loop .inv))
-
-part-end-requires-2 : tie.Need-part-end-requires-2 Inv-loop μ-loop
-part-end-requires-2 c κs = search needs
 
 add-line : tie.Need-add-line Inv-loop μ-loop
 add-line c = omega (arith, end-le (c .before .before .before .loop .inv), c .before .before .before .loop .inv .place .numbered, c .before .before .before .loop .inv .ends)
@@ -57,11 +47,11 @@ next-line-spec =
     (tie.spec
     Inv-loop
     μ-loop
-    part-end-requires
+    (λ c κs. search needs)
     loop-holds
     is-skipped-requires
     add-at
-    part-end-requires-2
+    (λ c κs. search needs)
     add-line
     loop-less
     loop-again

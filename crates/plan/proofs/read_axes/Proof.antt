@@ -1,5 +1,5 @@
 -- `read_axes` meets its contract: at each turn the axes so far are in the table, and the reading goes on at the next line. Assumes nothing.
-use mathlib.Core.Path.{_≡_, _∙_}
+use mathlib.Core.List.{[]}
 use Prim.Native.Nat.{_-_}
 use native.Mathlib.Omega.{arith}
 use borrow.Author.Needs.{needs}
@@ -10,15 +10,6 @@ use Rattle.plan.proofs.CursorLaws.{next-place}
 use Rattle.plan.proofs.AxesRead.{AxesRead, no-axes, same-table, turn-refused, turn-room, turn-stored, end-refused, end-accepted}
 use Rattle.plan.proofs.read_axes.Statement.{statement}
 use Rattle.plan.proofs.read_axes.Tie as tie
-use Rattle.plan.proofs.read_axes.Reads as reads
-use Rattle.plan.proofs.read_axes.Lts as lts
-use Rattle.plan.proofs.accepted.Reads as accepted-reads
-use Rattle.plan.proofs.next_line.Reads as next-line-reads
-use Rattle.plan.proofs.refusal_of.Reads as refusal-of-reads
-use Rattle.plan.proofs.refused.Reads as refused-reads
-use Rattle.plan.proofs.store_axis.Reads as store-axis-reads
-use Rattle.text.proofs.part.Reads as part-reads
-use mathlib.Core.List.{[]}
 
 abbrev Inv-loop : tie.InvT-loop
 Inv-loop text table₀ from number words draw held₀ c₀ table held c =
@@ -32,15 +23,6 @@ next-line-requires c κs = c .before .before .pre .1
 
 loop-holds : tie.Need-loop-holds Inv-loop μ-loop
 loop-holds c = no-axes _ _ (c .before .before .before .pre .0) (c .next-line .ensures)
-
-part-requires : tie.Need-part-requires Inv-loop μ-loop
-part-requires c κs = search needs
-
-refusal-of-requires : tie.Need-refusal-of-requires Inv-loop μ-loop
-refusal-of-requires c κs = search needs
-
-refused-requires : tie.Need-refused-requires Inv-loop μ-loop
-refused-requires c κs = search needs
 
 same-length : tie.Need-same-length Inv-loop μ-loop
 same-length c = same-table (c .before .before .before .before .before .before .loop .inv)
@@ -56,9 +38,6 @@ store-axis-requires c κs =
     let f = c .before .before in
     let i = f .before .before .before .before .loop .inv in
     (omega (arith, same-table i, i .room), turn-room i (f .before .before .if1 .taken) _ (f .before .part .ensures) (f .refusal-of .ensures) (c .before .if2 .left))
-
-add-next-line : tie.Need-add-next-line Inv-loop μ-loop
-add-next-line c = search needs
 
 add-next-line-2 : tie.Need-add-next-line-2 Inv-loop μ-loop
 add-next-line-2 c =
@@ -84,9 +63,6 @@ loop-again c =
     turn-stored (f .before .before .before .before .loop .inv) (f .before .before .if1 .taken) _ (f .before .part .ensures) (f .refusal-of .ensures) (e .before .before .if2 .left)
     (e .store-axis .ensures .1) (e .store-axis .ensures .0) (c .next-line2 .ensures)
 
-refused-requires-2 : tie.Need-refused-requires-2 Inv-loop μ-loop
-refused-requires-2 c κs = search needs
-
 same-length-2 : tie.Need-same-length-2 Inv-loop μ-loop
 same-length-2 c = same-table (c .before .before .before .before .before .loop .inv)
 
@@ -94,9 +70,6 @@ returns-2 : tie.Need-returns-2 Inv-loop μ-loop
 returns-2 c =
     let e = c .before .before .before in
     end-refused (e .before .before .loop .inv) (e .if1 .left) (c .before .if3 .taken) (c .refused2 .ensures)
-
-accepted-requires : tie.Need-accepted-requires Inv-loop μ-loop
-accepted-requires c κs = search needs
 
 same-length-3 : tie.Need-same-length-3 Inv-loop μ-loop
 same-length-3 c = same-table (c .before .before .before .before .before .loop .inv)
@@ -114,20 +87,20 @@ read-axes-spec =
     μ-loop
     next-line-requires
     loop-holds
-    part-requires
-    refusal-of-requires
-    refused-requires
+    (λ c κs. search needs)
+    (λ c κs. search needs)
+    (λ c κs. search needs)
     same-length
     returns
     store-axis-requires
-    add-next-line
+    (λ c. search needs)
     add-next-line-2
     next-line-requires-2
     loop-less
     loop-again
-    refused-requires-2
+    (λ c κs. search needs)
     same-length-2
     returns-2
-    accepted-requires
+    (λ c κs. search needs)
     same-length-3
     returns-3)
