@@ -5,24 +5,34 @@
    passed. An array is passed as a pointer and its length in elements. The pointer may not be null,
    also where the length is 0, and the arrays of one call may not overlap.
 
-   The answer of a call is 0, or the number of the refusal that applies:
-      9  an array is too short, a mode is none, or a number is too large for its place
+   The answer of a call is 0, 1 where a drawing stopped at its budget, or the number of the refusal
+   that applies:
+      9  an array is too short, a mode or an operation is none, or a number is too large for its
+         place
      10  the memory is empty or above 1,048,576 words
      11  PSIZE isn't 1, 2, 4, 8 or 16
      12  PP (CONTROL bits 10-14) is above 21, or PBH (bit 8) or PBV (bit 9) is 1
-     13  the pixel is XY, and DPTCH isn't a power of two of at least 16
+     13  a pitch that is used is bad: of an XY array or a lone XY pixel not a power of two of at
+         least 16, of a linear pixel array not a multiple of 16. DPTCH is used by a drawing and a
+         lone XY pixel, SPTCH by a source of pixels
      14  W (CONTROL bits 6-7) isn't 0, the destination is XY, and the window has a negative
          coordinate or a start beyond its end
-     16  there is a pixel to draw or read, and its X or Y is negative, or its linear address isn't a
-         multiple of PSIZE
-     17  some bit of the field, or the pixel that would be drawn or read, has an address of
-         16 x words or more
+     15  the place is above the drawing's number of pixels
+     16  there are pixels to draw or read, and an XY start after clipping has a negative X or Y, or
+         the linear address at which a pixel array or a lone pixel starts isn't a multiple of PSIZE
+     17  some bit of the field, or some pixel or source bit that would be visited over the whole
+         drawing, has an address of 16 x words or more
      18  the field size is outside 1 to 32
      19  the numbers are no cache state
+     20  a line of the plan has a wrong form
+     21  a name of the plan is unknown or came before
+     22  a value of the plan is too large for its name, or stands twice on its axis
+     23  the plan has more than 8 axes, or more than 64 values on one
+     24  a point isn't below the plan's number of points
    The lowest number that applies is given, but a field call checks 10, 18, 17 in that order. A call
-   that answers 9 changes nothing. With another refusal the results are 0, but for bh_fetch, V and
-   the point of bh_drav, and the memory or the cache state stays. An output array that is longer
-   than asked keeps its further elements.
+   that answers 9 changes nothing. With another refusal the results are 0, but for bh_fetch, V, the
+   point of bh_drav, and the place and the registers of bh_draw, and the memory or the cache state
+   stays. An output array that is longer than asked keeps its further elements.
 
    A memory is a run of 16-bit words; bit address a is bit a mod 16 of word a / 16. */
 #ifndef BUCKETHARE_H
@@ -36,16 +46,23 @@ extern "C" {
 #endif
 
 #define BH_DONE 0
+#define BH_STOPPED 1
 #define BH_SHORT 9
 #define BH_NO_MEMORY 10
 #define BH_BAD_PIXEL_SIZE 11
 #define BH_BAD_CONTROL 12
 #define BH_BAD_PITCH 13
 #define BH_BAD_WINDOW 14
+#define BH_BAD_PLACE 15
 #define BH_BAD_START 16
 #define BH_PAST_END 17
 #define BH_BAD_SIZE 18
 #define BH_NO_CACHE 19
+#define BH_BAD_FORM 20
+#define BH_BAD_NAME 21
+#define BH_BAD_VALUE 22
+#define BH_TOO_MANY 23
+#define BH_NO_POINT 24
 
 /* ---- Fields ---- */
 
@@ -122,6 +139,32 @@ uint32_t bh_pixt_from_xy(uint16_t *memory, size_t words, const uint32_t *setting
 uint32_t bh_drav(uint16_t *memory, size_t words, const uint32_t *settings, size_t settings_length,
                  uint32_t step, uint32_t point, uint32_t v, uint32_t *out, size_t out_length);
 
+/* ---- Drawings ---- */
+
+#define BH_FILL_L 0
+#define BH_FILL_XY 1
+#define BH_PIXBLT_L_L 2
+#define BH_PIXBLT_L_XY 3
+#define BH_PIXBLT_XY_L 4
+#define BH_PIXBLT_XY_XY 5
+#define BH_PIXBLT_B_L 6
+#define BH_PIXBLT_B_XY 7
+
+/* The results of a drawing are seven numbers: the new place, the pixels visited by this call, V (0
+   or 1), window violation request (0 or 1), SADDR, DADDR and DYDX. */
+#define BH_DRAW_RESULTS 7
+
+/* FILL or PIXBLT, one of the eight operations above, with the settings of PIXT and DRAV. place is the
+   number of pixels already visited, 0 at first, and the call visits at most budget more. v is V
+   before the call: 0, or anything else for 1. Answers 0 where the drawing is done, 1 where it stopped
+   at the budget: then the registers are those of the settings, and a call with the same settings, the
+   new place and the new V goes on. The settings stay. A refused call hands back place, V and registers
+   as given. Answers 0, 1, 9 (operation is above 7, there are less than 13 settings, one of the last
+   three is above 65535, or out has less than 7 elements), 10, 11, 12, 13, 14, 15, 16 or 17. */
+uint32_t bh_draw(uint16_t *memory, size_t words, uint32_t operation, const uint32_t *settings,
+                 size_t settings_length, uint64_t place, uint32_t v, uint64_t budget, uint64_t *out,
+                 size_t out_length);
+
 /* ---- Instruction cache ---- */
 
 /* A cache state is 12 numbers: the start addresses of segments 0 to 3 (bits 9-31 of the bit
@@ -155,6 +198,54 @@ uint32_t bh_fill_image(uint16_t *memory, size_t words, uint64_t seed);
    one counts as 0. Answers 0, 9 (out is empty), or 10 where either isn't a memory. */
 uint32_t bh_changed(const uint16_t *before, size_t words_before, const uint16_t *after,
                     size_t words_after, uint64_t *out, size_t out_length);
+
+/* ---- Plans ---- */
+
+/* The names of a plan are numbered in this order: SADDR 0, SPTCH, DADDR, DPTCH, OFFSET, WSTART, WEND,
+   DYDX, COLOR0, COLOR1, CONTROL 10, PSIZE, PMASK, SEED 13. */
+#define BH_NAMES 14
+
+/* A table has a plan's axes one after another: of each the number of its name, how many values it
+   has, and these. So many elements are enough for every plan. */
+#define BH_TABLE 528
+
+/* The results of reading are five numbers: the line of the refusal (0 where there is none), the
+   words of the memory, the drawing (0 to 7, in the order of BH_FILL_L and the others), and how many
+   axes and points there are. */
+#define BH_PLAN_RESULTS 5
+
+/* Reads a plan: its axes go to the start of the table, the results to out. A refused plan has 0 for
+   all results but the line, and the axes of the lines before that one are in the table. Answers 0,
+   9 (the table has less than 528 elements, or out less than 5), 20, 21, 22 or 23. */
+uint32_t bh_plan_read(const uint8_t *text, size_t length, uint64_t *table, size_t table_length,
+                      uint64_t *out, size_t out_length);
+
+/* The 14 values of a point, in the order of the names. axes is how many of the table's axes are the
+   plan's. Answers 0, 9 (out has less than 14 elements), or 24 where the point isn't below the
+   number of points, the table doesn't hold the axes, or there are more than 8. */
+uint32_t bh_experiment(const uint64_t *table, size_t table_length, uint64_t axes, uint64_t point,
+                       uint64_t *out, size_t out_length);
+
+/* No line of a listing that has a point is longer. */
+#define BH_LINE 80
+
+/* Runs `count` points from `first` on, each over the image of its SEED, and puts their lines of the
+   listing at the start of out; written[0] is how many bytes these are. The image and the memory are
+   those of the last point then; with count 0 they stay. What they hold before doesn't matter.
+   Answers 0; 9 (draw is above 7, the image and the memory aren't of one size of 1 to 32,768 words,
+   out has less than 80 x count bytes, or written is empty); or 24 where some point isn't below the
+   number of points, the table doesn't hold the axes, or there are more than 8. With 24 written[0]
+   is 0, and nothing else changes. */
+uint32_t bh_lines(const uint64_t *table, size_t table_length, uint64_t axes, uint64_t draw,
+                  uint64_t first, uint64_t count, uint16_t *image, size_t image_words,
+                  uint16_t *memory, size_t memory_words, uint8_t *out, size_t out_length,
+                  uint64_t *written, size_t written_length);
+
+/* Put the listing's heading, or the line of a refused plan (the refusal's number and its line), at
+   an index of out. They answer the index after the line; where it doesn't fit they answer the
+   index itself, and nothing changes. */
+size_t bh_put_heading(uint8_t *out, size_t out_length, size_t at);
+size_t bh_put_refused(uint8_t *out, size_t out_length, size_t at, uint64_t number, uint64_t line);
 
 #ifdef __cplusplus
 }

@@ -1,9 +1,13 @@
 /* Compares the library's C interface with the model, call by call.
 
-   compare [SEED] [COUNT] runs fixed edge cases and then COUNT random calls. It prints the seed, at
-   the end how often PIXT and DRAV gave each answer, and `compare: N calls, 0 differ`. At the first
-   difference it prints the call with both outcomes and ends with status 1. Each case is whole: it
-   depends on no earlier call. */
+   compare [SEED] [COUNT] runs fixed edge cases and then COUNT random calls of everything but FILL
+   and PIXBLT. compare draw [SEED] [COUNT] makes at least COUNT calls of these: drawings whole and
+   in slices, refused calls, and pairs of drawings in slices (demand 3). compare huge makes a few
+   with the largest arrays, for which the model takes half a minute. compare plans [SEED] [COUNT]
+   compares the listings and points of COUNT random plans. Each prints the seed, how often
+   each answer was given, and `compare: N calls, 0 differ`. At the first difference it prints the
+   call with both outcomes and ends with status 1. Each case is whole: it depends on no earlier
+   call. */
 #include "compare.h"
 
 #include <stdlib.h>
@@ -11,6 +15,8 @@
 
 #define DEFAULT_SEED 1
 #define DEFAULT_COUNT 50000000
+#define DEFAULT_DRAWS 10000000
+#define DEFAULT_PLANS 10000
 
 uint64_t calls;
 
@@ -94,6 +100,32 @@ size_t random_length(size_t needed)
     if (one_in(16))
         return random_below((uint32_t)needed + 2);
     return needed;
+}
+
+/* ---- Settings ---- */
+
+bool settings_are_bad(const uint32_t number[NUMBERS], size_t count)
+{
+    return count < BH_SETTINGS || number[AT_CONTROL] > 65535 || number[AT_PSIZE] > 65535
+           || number[AT_PMASK] > 65535;
+}
+
+struct settings settings_of(const uint32_t number[NUMBERS])
+{
+    struct settings s = { .SADDR = number[AT_SADDR],
+                          .SPTCH = number[AT_SPTCH],
+                          .DADDR = number[AT_DADDR],
+                          .DPTCH = number[AT_DPTCH],
+                          .OFFSET = number[AT_OFFSET],
+                          .WSTART = number[AT_WSTART],
+                          .WEND = number[AT_WEND],
+                          .DYDX = number[AT_DYDX],
+                          .COLOR0 = number[AT_COLOR0],
+                          .COLOR1 = number[AT_COLOR1],
+                          .CONTROL = (uint16_t)number[AT_CONTROL],
+                          .PSIZE = (uint16_t)number[AT_PSIZE],
+                          .PMASK = (uint16_t)number[AT_PMASK] };
+    return s;
 }
 
 /* ---- Fields over small memories ---- */
@@ -635,12 +667,9 @@ static void random_call(void)
         random_pixel_call();
 }
 
-int main(int argc, char **argv)
+/* Every call but bh_draw. */
+static void compare_others(uint64_t count)
 {
-    uint64_t seed = argc > 1 ? strtoull(argv[1], NULL, 0) : DEFAULT_SEED;
-    uint64_t count = argc > 2 ? strtoull(argv[2], NULL, 0) : DEFAULT_COUNT;
-    printf("compare: seed %llu\n", (unsigned long long)seed);
-    random_state = seed;
     prepare_large();
     field_edges();
     large_edges();
@@ -653,6 +682,28 @@ int main(int argc, char **argv)
             random_call();
     }
     print_pixel_answers();
+}
+
+int main(int argc, char **argv)
+{
+    bool draws = argc > 1 && strcmp(argv[1], "draw") == 0;
+    bool is_huge = argc > 1 && strcmp(argv[1], "huge") == 0;
+    bool plans = argc > 1 && strcmp(argv[1], "plans") == 0;
+    int first = draws || is_huge || plans ? 2 : 1;
+    uint64_t seed = argc > first ? strtoull(argv[first], NULL, 0) : DEFAULT_SEED;
+    uint64_t count = draws ? DEFAULT_DRAWS : plans ? DEFAULT_PLANS : DEFAULT_COUNT;
+    if (argc > first + 1)
+        count = strtoull(argv[first + 1], NULL, 0);
+    printf("compare: seed %llu\n", (unsigned long long)seed);
+    random_state = seed;
+    if (draws)
+        compare_drawings(count);
+    else if (is_huge)
+        compare_huge_drawings();
+    else if (plans)
+        compare_plans(count);
+    else
+        compare_others(count);
     printf("compare: %llu calls, 0 differ\n", (unsigned long long)calls);
     return 0;
 }

@@ -44,10 +44,50 @@ uint32_t expect_out(uint32_t out[OUTS], size_t length, const uint32_t *result, s
 /* The length of an output array: mostly what is needed, at times less or more. */
 size_t random_length(size_t needed);
 
+/* ---- Settings ---- */
+
+/* The places of the settings in the array. */
+enum place {
+    AT_SADDR,
+    AT_SPTCH,
+    AT_DADDR,
+    AT_DPTCH,
+    AT_OFFSET,
+    AT_WSTART,
+    AT_WEND,
+    AT_DYDX,
+    AT_COLOR0,
+    AT_COLOR1,
+    AT_CONTROL,
+    AT_PSIZE,
+    AT_PMASK
+};
+
+/* The settings, and numbers behind them. */
+#define NUMBERS 15
+
+/* Too few numbers are lent, or one is too large for its place: the library answers 9. */
+bool settings_are_bad(const uint32_t number[NUMBERS], size_t count);
+struct settings settings_of(const uint32_t number[NUMBERS]);
+
 /* ---- Single pixels (compare_pixels.c) ---- */
 
 void pixel_edges(void);
 void random_pixel_call(void);
 void print_pixel_answers(void);
+
+/* ---- FILL and PIXBLT (compare_drawings.c, compare_slices.c) ---- */
+
+/* Makes at least this many calls of bh_draw, and prints how often each kind gave each answer. Of
+   many calls each expected answer must have been given. */
+void compare_drawings(uint64_t count);
+
+/* The largest arrays: the model takes half a minute. */
+void compare_huge_drawings(void);
+
+/* ---- Plans (compare_plans.c) ---- */
+
+/* Compares this many random plans, and prints how often they and their points gave each answer. */
+void compare_plans(uint64_t count);
 
 #endif

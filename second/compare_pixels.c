@@ -103,25 +103,6 @@ enum form { TO_LINEAR, TO_XY, FROM_LINEAR, FROM_XY, DRAV };
 static const char *const form_name[FORMS] = { "PIXT to linear", "PIXT to XY", "PIXT from linear",
                                               "PIXT from XY", "DRAV" };
 
-/* The places of the settings in the array. */
-enum place {
-    AT_SADDR,
-    AT_SPTCH,
-    AT_DADDR,
-    AT_DPTCH,
-    AT_OFFSET,
-    AT_WSTART,
-    AT_WEND,
-    AT_DYDX,
-    AT_COLOR0,
-    AT_COLOR1,
-    AT_CONTROL,
-    AT_PSIZE,
-    AT_PMASK
-};
-
-#define NUMBERS 15
-
 /* A call: data is the register or the step, where the address, XY address or point. */
 struct pixel_case {
     enum form form;
@@ -165,30 +146,6 @@ static uint32_t call_library(const struct pixel_case *c, const struct pair *m, u
                        c->length);
     }
     return 0;
-}
-
-static bool settings_are_bad(const struct pixel_case *c)
-{
-    return c->count < BH_SETTINGS || c->number[AT_CONTROL] > 65535 || c->number[AT_PSIZE] > 65535
-           || c->number[AT_PMASK] > 65535;
-}
-
-static struct settings settings_of(const uint32_t number[NUMBERS])
-{
-    struct settings s = { .SADDR = number[AT_SADDR],
-                          .SPTCH = number[AT_SPTCH],
-                          .DADDR = number[AT_DADDR],
-                          .DPTCH = number[AT_DPTCH],
-                          .OFFSET = number[AT_OFFSET],
-                          .WSTART = number[AT_WSTART],
-                          .WEND = number[AT_WEND],
-                          .DYDX = number[AT_DYDX],
-                          .COLOR0 = number[AT_COLOR0],
-                          .COLOR1 = number[AT_COLOR1],
-                          .CONTROL = (uint16_t)number[AT_CONTROL],
-                          .PSIZE = (uint16_t)number[AT_PSIZE],
-                          .PMASK = (uint16_t)number[AT_PMASK] };
-    return s;
 }
 
 /* The model's answer, with its four results. */
@@ -252,7 +209,7 @@ static void compare_pixel(const struct pixel_case *c, const struct pair *m, cons
     clear_out(out);
     calls++;
     uint32_t answer = call_library(&lent, m, out);
-    bool bad = settings_are_bad(c) || c->length < BH_PIXEL_RESULTS;
+    bool bad = settings_are_bad(c->number, c->count) || c->length < BH_PIXEL_RESULTS;
     uint32_t model = bad ? 0 : call_model(c, m, result);
     uint32_t wanted = expect_out(expected, bad ? 0 : c->length, result, BH_PIXEL_RESULTS, model);
     count_answer(c->form, wanted, expected);

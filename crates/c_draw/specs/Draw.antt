@@ -1,0 +1,37 @@
+-- FILL and PIXBLT for C: operations as numbers, bad arguments, and the seven results. Assumes nothing.
+use mathlib.Core.Bool.{Bool, _||_}
+use mathlib.Core.List.{List, [], _∷_}
+use Prim.Native.Nat.{ℕ}
+use lib.Dec.{ltb}
+use lib.ListN.{getD}
+use Rattle.drawing.specs.declared.Operation.{Operation}
+use Rattle.drawing.specs.declared.Operation.the-variants.{FillL, FillXY, PixbltLL, PixbltLXY, PixbltXYL, PixbltXYXY, PixbltBL, PixbltBXY}
+use Rattle.drawing.specs.declared.Outcome.{Outcome}
+use Rattle.drawing.specs.Draw.{outcome}
+use Rattle.c_arrays.specs.Out.{isSet, bitOf, short}
+use Rattle.c_arrays.specs.Settings.{badSettings, settingsOf}
+
+-- the numbers 0 to 7 are the operations in the scope's order ("What is modelled"); no other number is one
+abbrev pub operations : List Operation
+operations = FillL ∷ FillXY ∷ PixbltLL ∷ PixbltLXY ∷ PixbltXYL ∷ PixbltXYXY ∷ PixbltBL ∷ PixbltBXY ∷ []
+
+unfoldable pub operationOf : ℕ → Operation
+operationOf n = getD operations n PixbltBXY
+
+abbrev pub badOperation : ℕ → Bool
+badOperation n = ltb 7 n
+
+-- the arguments are bad, or there is no room for the seven results
+abbrev pub badDraw : ℕ → List ℕ → List ℕ → Bool
+badDraw operation s out = short 7 out || (badOperation operation || badSettings s)
+
+-- the call of a library's user
+abbrev pub called : ℕ → List ℕ → ℕ → ℕ → ℕ → ℕ → Outcome
+called operation s place v budget words = outcome (operationOf operation) (settingsOf s) place (isSet v) budget words
+
+-- the new place, the pixels visited by this call, V, the request, and the registers
+abbrev pub results : ℕ → ℕ → Bool → Bool → ℕ → ℕ → ℕ → List ℕ
+results place visited v request saddr daddr dydx = place ∷ visited ∷ bitOf v ∷ bitOf request ∷ saddr ∷ daddr ∷ dydx ∷ []
+
+abbrev pub resultsOf : Outcome → List ℕ
+resultsOf o = results (o .place) (o .visited) (o .v) (o .request) (o .saddr) (o .daddr) (o .dydx)

@@ -1,0 +1,21 @@
+-- `hand_out` meets its contract.
+use borrow.Author.Needs.{needs}
+use Rattle.c_pixt.proofs.hand_out.Statement.{statement}
+use Rattle.c_pixt.proofs.hand_out.Tie as tie
+
+returns : tie.Need-returns
+returns c =
+    let s = c .before .before in
+    let b = s .before .before .before in
+    rw (s .store .ensures, b .bit2 .ensures .0, b .before .bit .ensures .0)
+
+pub hand-out-spec : {M : Type 1} → statement M
+hand-out-spec =
+    tie.close
+    (tie.spec
+    (λ c κs. search needs)
+    (λ c κs. search needs)
+    (λ c. search needs)
+    (λ c κs. search needs)
+    (λ c. search needs)
+    returns)

@@ -1,2 +1,0 @@
-mod OutLaws
-mod PixelsLaws

@@ -1,3 +1,0 @@
-pub mod Out
-pub mod State
-pub mod Pixels
