@@ -9,3 +9,4 @@ pub mod PlanLaws
 pub mod HandedLaws
 pub mod HeadRead
 pub mod AxesRead
+pub mod ReaderLaws

@@ -41,8 +41,38 @@ struct Cursor {
     line: u64,
 }
 
-// The next line that is not skipped, or what follows the last line.
+// A reader of a plan: its text, the place where its next line starts, and that line's number.
+struct Reader<'a> {
+    text: &'a [u8],
+    at: usize,
+    line: u64,
+}
+
+// A reader at a place of a text.
+fn reader_at<'a>(text: &'a [u8], at: usize, line: u64) -> Reader<'a>
+    ensures { λ r. ⌜ (r .text ≡ text .entry) × ((r .at ≡ at) × (r .line ≡ line)) ⌝ }
+{
+    Reader { text, at, line }
+}
+
+// The reader's next line that is not skipped, or what follows the last line.
+fn next<'a>(r: Reader<'a>) -> Cursor
+    requires { ⌜ Place (now (r .text)) (r .at) (r .line) ⌝ }
+    ensures { λ c. ⌜ Next (now (r .entry .text)) (r .entry .at) (r .entry .line) c ⌝ }
+{
+    line_from(r.text, r.at, r.line)
+}
+
+// The same from a place of a text, for callers that hold no reader.
 fn next_line(text: &[u8], from: usize, number: u64) -> Cursor
+    requires { ⌜ Place (now text) from number ⌝ }
+    ensures { λ r. ⌜ Next (now (text .entry)) from number r ⌝ }
+{
+    next(reader_at(text, from, number))
+}
+
+// The work: the lines from a place on are passed while they are skipped ones.
+fn line_from(text: &[u8], from: usize, number: u64) -> Cursor
     requires { ⌜ Place (now text) from number ⌝ }
     ensures { λ r. ⌜ Next (now (text .entry)) from number r ⌝ }
 {
