@@ -20,8 +20,8 @@
      15  the place is above the drawing's number of pixels
      16  there are pixels to draw or read, and an XY start after clipping has a negative X or Y, or
          the linear address at which a pixel array or a lone pixel starts isn't a multiple of PSIZE
-     17  some bit of the field, or some pixel or source bit that would be visited over the whole
-         drawing, has an address of 16 x words or more
+     17  some bit of the field, the lone pixel that would be drawn or read, or some pixel or source
+         bit that would be visited over the whole drawing has an address of 16 x words or more
      18  the field size is outside 1 to 32
      19  the numbers are no cache state
      20  a line of the plan has a wrong form
@@ -29,10 +29,11 @@
      22  a value of the plan is too large for its name, or stands twice on its axis
      23  the plan has more than 8 axes, or more than 64 values on one
      24  a point isn't below the plan's number of points
-   The lowest number that applies is given, but a field call checks 10, 18, 17 in that order. A call
-   that answers 9 changes nothing. With another refusal the results are 0, but for bh_fetch, V, the
-   point of bh_drav, and the place and the registers of bh_draw, and the memory or the cache state
-   stays. An output array that is longer than asked keeps its further elements.
+   The lowest number that applies is given, but a field call checks 10, 18, 17 in that order, and in
+   a plan the first bad line decides. A call that answers 9 changes nothing. With another refusal
+   the results are 0, but for bh_fetch, V, the point of bh_drav, the place and the registers of
+   bh_draw, the line of bh_plan_read and the values of bh_experiment, and the memory or the cache
+   state stays. An output array that is longer than asked keeps its further elements.
 
    A memory is a run of 16-bit words; bit address a is bit a mod 16 of word a / 16. */
 #ifndef BUCKETHARE_H
@@ -154,13 +155,14 @@ uint32_t bh_drav(uint16_t *memory, size_t words, const uint32_t *settings, size_
    or 1), window violation request (0 or 1), SADDR, DADDR and DYDX. */
 #define BH_DRAW_RESULTS 7
 
-/* FILL or PIXBLT, one of the eight operations above, with the settings of PIXT and DRAV. place is the
-   number of pixels already visited, 0 at first, and the call visits at most budget more. v is V
-   before the call: 0, or anything else for 1. Answers 0 where the drawing is done, 1 where it stopped
-   at the budget: then the registers are those of the settings, and a call with the same settings, the
-   new place and the new V goes on. The settings stay. A refused call hands back place, V and registers
-   as given. Answers 0, 1, 9 (operation is above 7, there are less than 13 settings, one of the last
-   three is above 65535, or out has less than 7 elements), 10, 11, 12, 13, 14, 15, 16 or 17. */
+/* FILL or PIXBLT, one of the eight operations above, with the settings of PIXT and DRAV. place is
+   the number of pixels already visited, 0 at first, and the call visits at most budget more. v is V
+   before the call: 0, or anything else for 1. Answers 0 where the drawing is done, or 1 where it
+   stopped at the budget: then the registers are those of the settings, and a call with the same
+   settings, the new place and the new V goes on. The settings stay. A refused call hands back
+   place, V and registers as given. Answers 0, 1, 9 (operation is above 7, there are less than 13
+   settings, one of the last three is above 65535, or out has less than 7 elements), 10, 11, 12, 13,
+   14, 15, 16 or 17. */
 uint32_t bh_draw(uint16_t *memory, size_t words, uint32_t operation, const uint32_t *settings,
                  size_t settings_length, uint64_t place, uint32_t v, uint64_t budget, uint64_t *out,
                  size_t out_length);
@@ -201,8 +203,8 @@ uint32_t bh_changed(const uint16_t *before, size_t words_before, const uint16_t 
 
 /* ---- Plans ---- */
 
-/* The names of a plan are numbered in this order: SADDR 0, SPTCH, DADDR, DPTCH, OFFSET, WSTART, WEND,
-   DYDX, COLOR0, COLOR1, CONTROL 10, PSIZE, PMASK, SEED 13. */
+/* The names of a plan are numbered in this order: SADDR 0, SPTCH, DADDR, DPTCH, OFFSET, WSTART,
+   WEND, DYDX, COLOR0, COLOR1, CONTROL 10, PSIZE, PMASK, SEED 13. */
 #define BH_NAMES 14
 
 /* A table has a plan's axes one after another: of each the number of its name, how many values it
@@ -222,7 +224,7 @@ uint32_t bh_plan_read(const uint8_t *text, size_t length, uint64_t *table, size_
 
 /* The 14 values of a point, in the order of the names. axes is how many of the table's axes are the
    plan's. Answers 0, 9 (out has less than 14 elements), or 24 where the point isn't below the
-   number of points, the table doesn't hold the axes, or there are more than 8. */
+   number of points, the table doesn't hold the axes, or there are more than 8; then out stays. */
 uint32_t bh_experiment(const uint64_t *table, size_t table_length, uint64_t axes, uint64_t point,
                        uint64_t *out, size_t out_length);
 

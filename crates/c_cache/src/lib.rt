@@ -1,12 +1,11 @@
 // The instruction cache for C: a fetch on lent arrays.
 ghost use mathlib.Core.Path.{_≡_};
-ghost use mathlib.Core.Bool.{cond, _||_};
+ghost use mathlib.Core.Bool.{cond};
 ghost use mathlib.Core.List.{[], _∷_};
-ghost use Prim.Native.Nat.{_≤_};
 ghost use lib.ListN.{getD};
 ghost use lib.Seq.{sets};
 ghost use Rattle.cache.specs.Cache.{fetched, answerOf};
-ghost use Rattle.c_arrays.specs.Out.{bitOf, short, answered, stored};
+ghost use Rattle.c_arrays.specs.Out.{answered, stored};
 ghost use Rattle.c_cache.specs.State.{segmentOf, placeOf, cacheOf, flagsNumber, numbersOf, kindNumber, badFetch, stays, stateAfter};
 use cache::Cache;
 use cache::Fetched;

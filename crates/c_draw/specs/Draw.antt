@@ -7,9 +7,8 @@ use lib.ListN.{getD}
 use Rattle.drawing.specs.declared.Operation.{Operation}
 use Rattle.drawing.specs.declared.Operation.the-variants.{FillL, FillXY, PixbltLL, PixbltLXY, PixbltXYL, PixbltXYXY, PixbltBL, PixbltBXY}
 use Rattle.drawing.specs.declared.Outcome.{Outcome}
-use Rattle.drawing.specs.Draw.{outcome}
-use Rattle.c_arrays.specs.Out.{isSet, bitOf, short}
-use Rattle.c_arrays.specs.Settings.{badSettings, settingsOf}
+use Rattle.c_arrays.specs.Out.{bitOf, short}
+use Rattle.c_arrays.specs.Settings.{badSettings}
 
 -- the numbers 0 to 7 are the operations in the scope's order ("What is modelled"); no other number is one
 abbrev pub operations : List Operation
@@ -24,10 +23,6 @@ badOperation n = ltb 7 n
 -- the arguments are bad, or there is no room for the seven results
 abbrev pub badDraw : ℕ → List ℕ → List ℕ → Bool
 badDraw operation s out = short 7 out || (badOperation operation || badSettings s)
-
--- the call of a library's user
-abbrev pub called : ℕ → List ℕ → ℕ → ℕ → ℕ → ℕ → Outcome
-called operation s place v budget words = outcome (operationOf operation) (settingsOf s) place (isSet v) budget words
 
 -- the new place, the pixels visited by this call, V, the request, and the registers
 abbrev pub results : ℕ → ℕ → Bool → Bool → ℕ → ℕ → ℕ → List ℕ

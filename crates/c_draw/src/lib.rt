@@ -1,13 +1,12 @@
 // FILL and PIXBLT for C: `drawing::draw` on numbers and lent arrays.
 ghost use mathlib.Core.Path.{_≡_};
 ghost use mathlib.Core.Bool.{cond};
-ghost use Prim.Native.Nat.{_≤_};
 ghost use lib.ListN.{length};
 ghost use lib.Seq.{sets};
-ghost use Rattle.drawing.specs.Draw.{drawn};
-ghost use Rattle.c_arrays.specs.Out.{answered, stored};
+ghost use Rattle.drawing.specs.Draw.{outcome, drawn};
+ghost use Rattle.c_arrays.specs.Out.{isSet, answered, stored};
 ghost use Rattle.c_arrays.specs.Settings.{settingsOf};
-ghost use Rattle.c_draw.specs.Draw.{operationOf, badDraw, called, results, resultsOf};
+ghost use Rattle.c_draw.specs.Draw.{operationOf, badDraw, results, resultsOf};
 use drawing::Operation;
 
 // A FILL or PIXBLT call; out has the new place, the pixels visited by this call, V, the request, SADDR, DADDR and DYDX.
@@ -21,7 +20,8 @@ pub fn draw(
     out: &mut [u64],
 ) -> u32
     ensures { λ r. let m = now (memory .entry) in let s = now (settings .entry) in let o = now (out .entry) in
-        let bad = badDraw operation s o in let call = called operation s place v budget (length m) in
+        let bad = badDraw operation s o in
+        let call = outcome (operationOf operation) (settingsOf s) place (isSet v) budget (length m) in
         ⌜ (r ≡ answered bad (call .answer))
         × (now (out .exit) ≡ stored bad o (resultsOf call))
         × (now (memory .exit) ≡ cond bad m (drawn (operationOf operation) (settingsOf s) place budget m)) ⌝ }
