@@ -1,4 +1,6 @@
-pub mod PlaceLaws
+pub mod RowLaws
+pub mod RowsLaws
+pub mod WordLaws
 pub mod SourceLaws
 pub mod VisitsLaws
 pub mod Drawn

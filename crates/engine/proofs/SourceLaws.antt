@@ -2,17 +2,24 @@
 use mathlib.Core.Path.{_≡_, ap, _∙_}
 use mathlib.Core.Bool.{cond}
 use mathlib.Core.List.{List}
+use mathlib.Core.Logic.{⊎-elim}
 use Prim.Native.Nat.{ℕ, _/_, _^_, _<_}
 use native.Mathlib.Omega.{arith}
-use borrow.Author.Tests.{eq-eqb, ne-eqb}
 use lib.Dec.{eqb}
 use lib.ListN.{getD}
 use Rattle.memory.specs.Bits.{bitAt}
+use Rattle.memory.proofs.BitLaws.{bit-lt}
 use Rattle.pixel.specs.Pixel.{topOf, pixelOf}
+use Rattle.pixel.proofs.BitwiseLaws.{bit-cases}
 use Rattle.engine.specs.declared.Source.{Source}
 use Rattle.engine.specs.declared.Source.the-variants.{Color, Pixels, Bits}
 use Rattle.engine.specs.declared.Drawing.{Drawing}
+use Rattle.engine.specs.Row.{colorsOf}
 use Rattle.engine.specs.Engine.{stepOf, colorAt, sourceBy, sourceAt}
+
+pub bitAt-lt : (m : List ℕ) (a : ℕ) → bitAt m a < 2
+unfolding bitAt
+bitAt-lt m a = bit-lt _ _
 
 module _ (d : Drawing) (from to : ℕ) (m : List ℕ) where
   by-source : {k : Source} → d .source ≡ k → sourceAt d from to m ≡ sourceBy k d from to m
@@ -28,11 +35,9 @@ module _ (d : Drawing) (from to : ℕ) (m : List ℕ) where
   pub source-bits : d .source ≡ Bits → sourceAt d from to m ≡ cond (eqb (bitAt m from) 1) (colorAt d (d .color1) to) (colorAt d (d .color0) to)
   source-bits e = by-source e
 
-  pub source-one : d .source ≡ Bits → bitAt m from ≡ 1 → sourceAt d from to m ≡ colorAt d (d .color1) to
-  source-one e z = by-source e ∙ rw (eq-eqb _ _ z)
-
-  pub source-zero : d .source ≡ Bits → (bitAt m from ≡ 1 → ⊥) → sourceAt d from to m ≡ colorAt d (d .color0) to
-  source-zero e z = by-source e ∙ rw (ne-eqb _ _ z)
+  -- the colour is chosen by the bit as a place in the list of the two
+  pub source-chosen : d .source ≡ Bits → sourceAt d from to m ≡ colorAt d (getD (colorsOf d) (bitAt m from) 0) to
+  source-chosen e = by-source e ∙ ⊎-elim (λ (z : bitAt m from ≡ 0). rw z) (λ (z : bitAt m from ≡ 1). rw z) (bit-cases (bitAt-lt m from))
 
 pub stepOf-lt : (k : Source) {p : ℕ} → p < 2 ^ 16 → stepOf k p < 2 ^ 16
 stepOf-lt Color h = omega arith

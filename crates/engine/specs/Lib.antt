@@ -1,3 +1,3 @@
 pub mod Engine
 pub mod Footprint
-pub mod Place
+pub mod Row
