@@ -1,4 +1,5 @@
--- What the loop over a row holds: the two colours of a B source, and a word with a result in the place of some bits. Assumes nothing.
+-- What the loop over a row holds: the two colours of a B source, and a word with a result in the place of some bits. The scope
+-- knows nothing of it. Assumes nothing.
 use mathlib.Core.List.{List, [], _∷_}
 use Prim.Native.Nat.{ℕ, _+_, _-_, _*_, _%_, _^_}
 use lib.Bits.{bitAnd}

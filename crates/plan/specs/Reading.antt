@@ -47,7 +47,7 @@ axisLines words draw axes (l ∷ m ∷ ls) =
     (axisLines words draw (axes ++ (axisOf (fieldsOf (l .bytes)) ∷ [])) (m ∷ ls))
     (refusedAt (axisRefusal axes (fieldsOf (l .bytes))) (l .number) axes)
 
--- then the draw line; a missing one, or one that is not ended, is 20 at the line after the last one
+-- then the draw line; a missing one is 20 at the line after the last one, and one that is not ended 20 at its own: the same number
 unfoldable pub drawLine : ℕ → List Line → Reading
 drawLine words [] = refusedAt 20 1 []
 drawLine words (rest ∷ []) = refusedAt 20 (rest .number) []

@@ -20,7 +20,7 @@ defaults = 0 ∷ 0 ∷ 0 ∷ 0 ∷ 0 ∷ 0 ∷ 0 ∷ 0 ∷ 0 ∷ 0 ∷ 0 ∷ 16 
 -- the count is the product of the axis lengths, 1 with no axis
 unfoldable pub count : List Axis → ℕ
 count [] = 1
-count (a ∷ as′) = length (a .values) * count as′
+count (a ∷ later) = length (a .values) * count later
 
 -- the values of a name are below 2^32; of CONTROL, PSIZE and PMASK below 2^16; of SEED below 2^64
 unfoldable pub limit : ℕ → ℕ
