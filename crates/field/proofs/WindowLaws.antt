@@ -56,29 +56,23 @@ module _ {n : ℕ} {m : List ℕ} (g : Memory n m) where
       let e : v / 65536 / 65536 ≡ v / 2 ^ 32 = omega arith in
       ap₂ (λ (l : List ℕ) (x : ℕ). set l (i + 2) (x % 65536)) (store-two i v (omega arith)) e ∙ store-more i 2 v h
 
--- ---- a field of n bits at a, in the words that it touches
-abbrev pub wordsOf : ℕ → ℕ → ℕ
-wordsOf a n = (a % 16 + n + 15) / 16
+-- ---- a field of n bits from bit s on of k words
+module _ (m : List ℕ) (i k s n : ℕ) (fits : s + n ≤ 16 * k) where
+  pub field-read : number (bitAt m) (16 * i + s) n ≡ windowOf m i k / 2 ^ s % 2 ^ n
+  field-read = number-part (bitAt m) (bitAt-lt m) (16 * i) (16 * k) s n fits
 
-module _ (m : List ℕ) (a n : ℕ) where
-  split : 16 * (a / 16) + a % 16 ≡ a
-  split = omega arith
+  pub field-written : (x : ℕ) {words : ℕ} → Memory words m → i + k ≤ words
+      → withField m (16 * i) (16 * k) (withBits (windowOf m i k) s n x) ≡ withField m (16 * i + s) n x
+  field-written x g h = withField-window (16 * i) (16 * k) s n x g fits (omega arith)
 
-  pub field-read : number (bitAt m) a n ≡ windowOf m (a / 16) (wordsOf a n) / 2 ^ (a % 16) % 2 ^ n
-  field-read =
-      ap (λ (x : ℕ). number (bitAt m) x n) (sym split)
-      ∙ number-part (bitAt m) (bitAt-lt m) (16 * (a / 16)) (16 * wordsOf a n) (a % 16) n (omega arith)
+-- a window of at most three words
+pub window-lt : (m : List ℕ) (i k : ℕ) → k ≤ 3 → windowOf m i k < 2 ^ 48
+window-lt m i k h =
+    lt-of-lt-of-le (number-lt (bitAt m) (bitAt-lt m) (16 * i) (16 * k)) (pow-mono {i = 16 * k} {j = 48} (omega arith))
 
-  pub field-written : (x : ℕ) {k : ℕ} → Memory k m → 0 < n → a + n ≤ 16 * k
-      → withField m (16 * (a / 16)) (16 * wordsOf a n) (withBits (windowOf m (a / 16) (wordsOf a n)) (a % 16) n x) ≡ withField m a n x
-  field-written x g p h =
-      withField-window (16 * (a / 16)) (16 * wordsOf a n) (a % 16) n x g (omega arith) (omega arith)
-      ∙ ap (λ (y : ℕ). withField m y n x) split
-
-  pub window-lt : n ≤ 32 → windowOf m (a / 16) (wordsOf a n) < 2 ^ 48
-  window-lt h =
-      lt-of-lt-of-le (number-lt (bitAt m) (bitAt-lt m) (16 * (a / 16)) (16 * wordsOf a n))
-      (pow-mono {i = 16 * wordsOf a n} {j = 48} (omega arith))
+-- the bit in which a field starts
+pub place : (a : ℕ) → 16 * (a / 16) + a % 16 ≡ a
+place a = omega arith
 
 -- a shift to the left of n bits by s, in 64 bits
 pub shifted : (s n x : ℕ) → s < 16 → n ≤ 32 → x % 2 ^ n * 2 ^ s % 2 ^ 64 ≡ x % 2 ^ n * 2 ^ s

@@ -71,24 +71,54 @@ fn read_register(memory: &[u16], address: u64, size: u64, signed: bool) -> u32
     bits as u32
 }
 
-// The field's bits as a number.
+// The field's bits as a number. The words taken are three where two are not enough, and else two if there are two: whether one would be enough
+// is not asked, as that test is often guessed wrong.
 fn read_bits(memory: &[u16], address: u64, size: u64) -> u64
     requires { ⌜ (0 < size) × (size ≤ 32) × (address + size ≤ 16 * length (now memory)) ⌝ }
     ensures { λ r. ⌜ r ≡ number (bitAt (now (memory .entry))) address size ⌝ }
 {
     let s = address % 16;
-    let v = window(memory, (address / 16) as usize, (s + size + 15) / 16);
-    taken(v, s, size)
+    let at = (address / 16) as usize;
+    if 32 < s + size {
+        return read_words(memory, at, 3, s, size);
+    }
+    if memory.len() - at < 2 {
+        return read_words(memory, at, 1, s, size);
+    }
+    read_words(memory, at, 2, s, size)
 }
 
-// Writes the low bits of a number to the field, and no other bit.
+// The bits from bit s on of so many words.
+fn read_words(memory: &[u16], at: usize, count: u64, s: u64, size: u64) -> u64
+    requires { ⌜ (0 < count) × (count ≤ 3) × (at + count ≤ length (now memory)) ⌝ }
+    requires { ⌜ (s < 16) × (size ≤ 32) × (s + size ≤ 16 * count) ⌝ }
+    ensures { λ r. ⌜ r ≡ number (bitAt (now (memory .entry))) (16 * at + s) size ⌝ }
+{
+    taken(window(memory, at, count), s, size)
+}
+
+// Writes the low bits of a number to the field, and no other bit. The words are those that a read takes.
 fn write_bits(memory: &mut [u16], address: u64, size: u64, x: u64)
     requires { ⌜ (0 < size) × (size ≤ 32) × (address + size ≤ 16 * length (now memory)) ⌝ }
     ensures { λ _. ⌜ now (memory .exit) ≡ withField (now (memory .entry)) address size x ⌝ }
 {
     let s = address % 16;
     let at = (address / 16) as usize;
-    let count = (s + size + 15) / 16;
+    if 32 < s + size {
+        return write_words(memory, at, 3, s, size, x);
+    }
+    if memory.len() - at < 2 {
+        return write_words(memory, at, 1, s, size, x);
+    }
+    write_words(memory, at, 2, s, size, x)
+}
+
+// Writes the low bits of a number from bit s on of so many words.
+fn write_words(memory: &mut [u16], at: usize, count: u64, s: u64, size: u64, x: u64)
+    requires { ⌜ (0 < count) × (count ≤ 3) × (at + count ≤ length (now memory)) ⌝ }
+    requires { ⌜ (s < 16) × (size ≤ 32) × (s + size ≤ 16 * count) ⌝ }
+    ensures { λ _. ⌜ now (memory .exit) ≡ withField (now (memory .entry)) (16 * at + s) size x ⌝ }
+{
     let v = window(memory, at, count);
     let w = put(v, s, size, x);
     store(memory, at, count, w);

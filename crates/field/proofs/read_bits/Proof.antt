@@ -1,27 +1,42 @@
 -- `field::read_bits` meets its contract. Assumes nothing.
-use mathlib.Core.Path.{sym, _∙_}
-use Rattle.field.proofs.WindowLaws.{field-read}
+use Rattle.field.proofs.WindowLaws.{place}
 use borrow.Author.Needs.{needs}
 use Rattle.field.proofs.read_bits.Statement.{statement}
 use Rattle.field.proofs.read_bits.Tie as tie
 
-add-window : tie.Need-add-window
-add-window c = search needs
+add-if1 : tie.Need-add-if1
+add-if1 c = search needs
 
-add-window-2 : tie.Need-add-window-2
-add-window-2 c = search needs
-
-window-requires : tie.Need-window-requires
-window-requires c κs = search needs
-
-taken-requires : tie.Need-taken-requires
-taken-requires c κs = search needs
+read-words-requires : tie.Need-read-words-requires
+read-words-requires c κs = search needs
 
 returns : tie.Need-returns
-returns c =
-    let x = c .before .before .before .args in
-    c .taken .ensures ∙ rw (c .before .window .ensures) (sym (field-read (x .memory .now) (x .address) (x .size)))
+returns c = rw place at (c .read-words .ensures)
+
+sub-if2 : tie.Need-sub-if2
+sub-if2 c = search needs
+
+read-words-requires-2 : tie.Need-read-words-requires-2
+read-words-requires-2 c κs = search needs
+
+returns-2 : tie.Need-returns-2
+returns-2 c = rw place at (c .read-words2 .ensures)
+
+read-words-requires-3 : tie.Need-read-words-requires-3
+read-words-requires-3 c κs = search needs
+
+returns-3 : tie.Need-returns-3
+returns-3 c = rw place at (c .read-words3 .ensures)
 
 pub read-bits-spec : {M : Type 1} → statement M
 read-bits-spec =
-    tie.close (tie.spec add-window add-window-2 window-requires taken-requires returns)
+    tie.close
+    (tie.spec
+    add-if1
+    read-words-requires
+    returns
+    sub-if2
+    read-words-requires-2
+    returns-2
+    read-words-requires-3
+    returns-3)
