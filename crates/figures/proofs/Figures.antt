@@ -47,5 +47,6 @@ figures =
       point = refl;
       point-past = refl;
       drav = refl;
+      drav-memory = λ source m. refl;
       fetches = refl;
     }

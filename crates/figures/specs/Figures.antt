@@ -23,6 +23,7 @@ use Rattle.geometry.specs.declared.Rectangle.{Rectangle}
 use Rattle.geometry.specs.declared.Clipped.{Clipped}
 use Rattle.settings.specs.declared.Settings.{Settings}
 use Rattle.pixt.specs.Lone.{xyDestination}
+use Rattle.pixt.specs.Pixt.{drawnAt}
 use Rattle.pixt.specs.Drav.{dravOf}
 use Rattle.drawing.specs.Refusal.{refusal}
 use Rattle.drawing.specs.Draw.{outcome}
@@ -118,6 +119,7 @@ pub record Figures : Type 0 where
   -- DRAV from 0000FFFFh with step 1, W=3, window from 0,0: not drawn, V=1, new point 0
   pub drav : dravOf windowed false 0x0000FFFF 1 (xyDestination 64 windowed 0x0000FFFF false)
       ≡ record { answer = 0; visited = 0; v = true; request = false; point = 0; settings = windowed }
+  pub drav-memory : (source : ℕ) (m : List ℕ) → drawnAt windowed (xyDestination 64 windowed 0x0000FFFF false) source m ≡ m
   -- fresh cache, fetches at 0, 64, 16, 512, 1024, 1536, 2048, 0: segment, subsegment, hit, then five segment misses
   pub fetches : kinds freshCache (0 ∷ 64 ∷ 16 ∷ 512 ∷ 1024 ∷ 1536 ∷ 2048 ∷ 0 ∷ [])
       ≡ SegmentMiss ∷ SubsegmentMiss ∷ Hit ∷ SegmentMiss ∷ SegmentMiss ∷ SegmentMiss ∷ SegmentMiss ∷ SegmentMiss ∷ []

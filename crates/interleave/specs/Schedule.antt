@@ -10,7 +10,8 @@ use Rattle.memory.specs.Bits.{Memory}
 use Rattle.interleave.specs.Footprint.{Apart}
 use Rattle.interleave.specs.Machine.{Machine, Held, call, Accepted, BitsOf}
 
--- a slice of a drawing, by its number, with a budget; or any other call: drawing, place, budget, V
+-- a slice of a drawing, by its number, with a budget; or any other call: drawing, place, budget, V. (Refused calls of other kinds, as PIXT
+-- or a field write, leave the memory by their own promises, so they change nothing of a list that they stand in.)
 pub data Event (D : Type 0) : Type 0 where
   slice : ℕ → ℕ → Event D
   other : D → ℕ → ℕ → Bool → Event D

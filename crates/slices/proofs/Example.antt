@@ -117,9 +117,9 @@ es = slice 0 2 ∷ slice 1 1 ∷ other fill 4 9 true ∷ slice 0 5 ∷ slice 1 0
 
 computed : (afterCalls fill copy false true m es .memory ≡ 49151 ∷ 10 ∷ 171 ∷ [])
     × (afterCalls fill copy false true m es .held 0
-    ≡ record { answer = 0; place = 3; v = true; request = false; regs = record { saddr = 0; daddr = 16; dydx = 65540 } })
+    ≡ record { answer = 0; place = 3; v = true; request = false; regs = record { saddr = 0; daddr = 16; dydx = 65540; settings = fill .settings } })
     × (afterCalls fill copy false true m es .held 1
-    ≡ record { answer = 0; place = 2; v = true; request = false; regs = record { saddr = 48; daddr = 28; dydx = 65538 } })
+    ≡ record { answer = 0; place = 2; v = true; request = false; regs = record { saddr = 48; daddr = 28; dydx = 65538; settings = copy .settings } })
 unfolding calls nextCall outcome outcomeAt drawn refusal refusalOf vAfter drawingOf part destStart srcStart clipped common xyAddress badXYPitch leavesMemory reaches addressOf visits drawnAt sourceAt plotted wordAfter withPixel pixelAfter result processed operations pixelOf
 computed = (refl, refl, refl)
 

@@ -53,8 +53,8 @@ pub record OneThenOther (i j : ℕ) (d e : Job) (v u : Bool) (b c : ℕ) (m : Li
 
 -- over every memory of w words: two accepted drawings whose bits don't meet, all their pixels counting, with any first V's; and a list of
 -- slices of them with any budgets in any alternation, with refused calls of any drawing, place, budget and V anywhere. If a call of each
--- has answered 0, then memory, flags and registers are those of d whole and then e whole, and those of e whole and then d whole, a budget
--- of at least n being whole
+-- has answered 0 (after which it stays done: DoneForGood), then memory, flags and registers are those of d whole and then e whole, and those
+-- of e whole and then d whole, a budget of at least n being whole
 abbrev pub Demand3 : Type 0
 Demand3 =
     (w : ℕ) (m : List ℕ) → Memory w m

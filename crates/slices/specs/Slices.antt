@@ -21,17 +21,18 @@ pub record Job : Type 0 where
   pub operation : Operation
   pub settings : Settings
 
--- the registers that a call may change
+-- all its registers: those that a call may change, and the settings that it hands back
 pub record Registers : Type 0 where
   pub saddr : ℕ
   pub daddr : ℕ
   pub dydx : ℕ
+  pub settings : Settings
 
 -- ---- the public calls
 
 -- the registers of an outcome, and what a caller holds of it
 abbrev pub registersOf : Outcome → Registers
-registersOf o = record { saddr = o .saddr; daddr = o .daddr; dydx = o .dydx }
+registersOf o = record { saddr = o .saddr; daddr = o .daddr; dydx = o .dydx; settings = o .settings }
 
 abbrev pub heldOf : Outcome → Held Registers
 heldOf o = record { answer = o .answer; place = o .place; v = o .v; request = o .request; regs = registersOf o }
@@ -52,7 +53,7 @@ walkOf j = drawingFor (j .operation) (j .settings)
 
 -- the registers as given
 abbrev pub keptBy : Job → Registers
-keptBy j = record { saddr = j .settings .saddr; daddr = j .settings .daddr; dydx = j .settings .dydx }
+keptBy j = record { saddr = j .settings .saddr; daddr = j .settings .daddr; dydx = j .settings .dydx; settings = j .settings }
 
 -- the registers of a call that is done: its place is n
 abbrev pub endedBy : Job → Registers

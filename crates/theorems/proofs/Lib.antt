@@ -1,3 +1,4 @@
 pub mod Example
 pub mod Plans
+pub mod Refused
 pub mod Theorems

@@ -13,7 +13,7 @@ use Rattle.geometry.proofs.WindowLaws as window
 use Rattle.geometry.proofs.WalkLaws as walk
 use Rattle.slices.proofs.CallsAgree as calls
 use Rattle.slices.proofs.Demand3 as slices
-use Rattle.theorems.specs.Theorems.{BitsDecide, ChangedDecides, ReadBack, WriteFrame, WriteRefused, WriteBack, PastEnd, OneCase, FetchAccepted, RefusedExactly, PixelFrame, PixelDepends, KeptIsSeen, SeenIsKept, WalkInside, SeedsDiffer, TwoDrawings, Stopped, PublicCalls}
+use Rattle.theorems.specs.Theorems.{BitsDecide, ChangedDecides, ReadBack, WriteFrame, WriteBack, PastEnd, OneCase, FetchAccepted, RefusedExactly, PixelFrame, PixelDepends, KeptIsSeen, SeenIsKept, WalkInside, SeedsDiffer, TwoDrawings, Stopped, StaysDone, PublicCalls}
 
 pub bits-decide : BitsDecide
 bits-decide n m m′ g g′ e = memory.memory-ext g g′ e
@@ -27,9 +27,6 @@ read-back = field.read-back
 
 pub write-frame : WriteFrame
 write-frame = field.write-frame
-
-pub write-refused : WriteRefused
-write-refused = field.written-refused
 
 pub write-back : WriteBack
 write-back = field.write-back
@@ -53,7 +50,7 @@ pub pixel-depends : PixelDepends
 pixel-depends pp t p pmask a n m m′ s s′ h g g′ l e f = pixel.plotted-depend pp t p pmask a h g g′ l s s′ e f
 
 pub kept-is-seen : KeptIsSeen
-kept-is-seen = window.seen-of-kept
+kept-is-seen w r win v nonzero a b p = (window.pixel-of-kept w r win v a b p, window.seen-of-kept w r win v nonzero a b p)
 
 pub seen-is-kept : SeenIsKept
 seen-is-kept = window.kept-pixel
@@ -70,6 +67,9 @@ two-drawings = slices.demand3
 
 pub stopped : Stopped
 stopped = slices.stopped-anywhere
+
+pub stays-done : StaysDone
+stays-done = slices.done-for-good
 
 pub public-calls : PublicCalls
 public-calls = calls.calls-agree

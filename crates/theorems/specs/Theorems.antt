@@ -23,7 +23,7 @@ use Rattle.geometry.specs.Walk.{addressOf, leavesMemory}
 use Rattle.geometry.specs.declared.Rectangle.{Rectangle}
 use Rattle.geometry.specs.declared.Window.{Window}
 use Rattle.slices.specs.Slices.{Job, SameCall}
-use Rattle.slices.specs.Demand3.{Demand3, StoppedAnywhere}
+use Rattle.slices.specs.Demand3.{Demand3, StoppedAnywhere, DoneForGood}
 
 -- ---- memory
 
@@ -44,12 +44,9 @@ ReadBack =
     (m : List ℕ) (a n x : ℕ) → refusal (length m) a n ≡ 0
     → (fieldRead (fieldWritten m a n x) a n false .answer ≡ 0) × (fieldRead (fieldWritten m a n x) a n false .value ≡ x % 2 ^ n)
 
--- A write leaves every bit outside the field alone; so does a refused one, which changes nothing at all.
+-- A write leaves every bit outside the field alone.
 abbrev pub WriteFrame : Type 0
 WriteFrame = (m : List ℕ) (a n x b : ℕ) → (b < a) ⊎ (a + n ≤ b) → bitAt (fieldWritten m a n x) b ≡ bitAt m b
-
-abbrev pub WriteRefused : Type 0
-WriteRefused = (m : List ℕ) (a n x : ℕ) → (refusal (length m) a n ≡ 0 → ⊥) → fieldWritten m a n x ≡ m
 
 -- Writing what was read changes nothing, zero or sign extended.
 abbrev pub WriteBack : Type 0
@@ -97,10 +94,11 @@ PixelDepends =
 
 -- ---- windows
 
--- Whatever W but 0 keeps of a rectangle lies in the window.
+-- Whatever W but 0 keeps of a rectangle are pixels of it that lie in the window.
 abbrev pub KeptIsSeen : Type 0
 KeptIsSeen =
-    (w : ℕ) (r : Rectangle) (win : Window) (v : Bool) → (w ≡ 0 → ⊥) → (a b : ℕ) → Pixel (kept r (clipped w r win v)) a b → Seen win a b
+    (w : ℕ) (r : Rectangle) (win : Window) (v : Bool) → (w ≡ 0 → ⊥) → (a b : ℕ) → Pixel (kept r (clipped w r win v)) a b
+    → Pixel r a b × Seen win a b
 
 -- W 3 keeps every pixel of the rectangle that lies in the window.
 abbrev pub SeenIsKept : Type 0
@@ -132,6 +130,10 @@ TwoDrawings = Demand3
 abbrev pub Stopped : Type 0
 Stopped = StoppedAnywhere
 
--- The calls that these two speak of are the public ones: each hands back and leaves what `drawing::draw` does.
+-- Once a call of its own has answered 0, a drawing stays done, whatever slices and refused calls follow.
+abbrev pub StaysDone : Type 0
+StaysDone = DoneForGood
+
+-- The calls that these three speak of are the public ones: each hands back and leaves what `drawing::draw` does.
 abbrev pub PublicCalls : Type 0
 PublicCalls = (j : Job) (k b : ℕ) (v : Bool) (m : List ℕ) → SameCall j k b v m

@@ -1,0 +1,47 @@
+-- The proofs of specs/Refused.antt. Assumes nothing.
+use mathlib.Core.Path.{_≡_}
+use mathlib.Core.Bool.{Bool, true, false, cond}
+use Prim.Native.Nat.{ℕ, _+_, _≤_}
+use native.Mathlib.Omega.{arith}
+use borrow.Author.Tests.{eq-eqb, ne-eqb}
+use lib.Dec.{eqb}
+use Rattle.field.proofs.RoundLaws as field
+use Rattle.image.specs.Image.{imaged}
+use Rattle.cache.specs.Cache.{fetched}
+use Rattle.pixt.specs.Pixt.{pixtTo, pixtFrom}
+use Rattle.pixt.specs.Drav.{dravOf}
+use Rattle.engine.specs.Engine.{pixels}
+use Rattle.drawing.specs.Array.{drawingFor}
+use Rattle.drawing.specs.Draw.{outcomeAt, visitedBy, outcome, drawn}
+use Rattle.theorems.specs.Refused.{DrawRefused, DrawAccepted, PixtRefused, DravRefused, WriteRefused, ImageRefused, FetchRefused}
+
+pub draw-refused : DrawRefused
+unfolding outcome drawn
+draw-refused op s place v budget m h = let e = ne-eqb _ _ h in (rw e, rw e)
+
+pub draw-accepted : DrawAccepted
+unfolding outcome outcomeAt
+draw-accepted op s place v budget words e = rw (eq-eqb _ _ e) (go (eqb (place + visitedBy op s place budget) (pixels (drawingFor op s))))
+  where
+    go : (t : Bool) → cond t 0 1 ≤ 1
+    go true = omega arith
+    go false = omega arith
+
+pub pixt-refused : PixtRefused
+unfolding pixtTo pixtFrom
+pixt-refused s v l source m h = let e = ne-eqb _ _ h in (rw e, rw e, rw e)
+
+pub drav-refused : DravRefused
+unfolding dravOf
+drav-refused s v point step l h = rw (ne-eqb _ _ h)
+
+pub write-refused : WriteRefused
+write-refused = field.written-refused
+
+pub image-refused : ImageRefused
+unfolding imaged
+image-refused m seed e = rw e
+
+pub fetch-refused : FetchRefused
+unfolding fetched
+fetch-refused c address control e = rw e
