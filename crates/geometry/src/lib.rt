@@ -300,7 +300,7 @@ pub fn leaves_memory(words: usize, start: u32, cols: u16, rows: u16, pitch: u32,
     reaches_limit(16 * words as u64, start, cols, rows, pitch, step)
 }
 
-// The same for a limit. A pitch up to 2^31 walks up, and the last pixel has the greatest address; a greater one walks down by what it
+// The same for a limit. With a pitch up to 2^31 addresses rise, and the last pixel has the greatest; with a greater one rows fall by what it
 // lacks of 2^32, the first row has the greatest addresses, and the last one must not fall below 0.
 fn reaches_limit(limit: u64, start: u32, cols: u16, rows: u16, pitch: u32, step: u8) -> bool
     requires { ⌜ (limit ≤ 2 ^ 24) × (0 < cols) × (0 < rows) ⌝ }

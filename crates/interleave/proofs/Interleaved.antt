@@ -1,4 +1,4 @@
--- Demand 3 for any number of drawings: the proofs of `Interleaved`, `Reached`, `Stopped` and `StaysDone` of specs/Claims.antt. Assumes nothing.
+-- Demand 3 for any number of drawings: the proofs of `Interleaved`, `Stopped` and `StaysDone` of specs/Claims.antt. Assumes nothing.
 use mathlib.Core.Path.{_≡_, refl, sym, ap, _∙_, subst}
 use mathlib.Core.Logic.{inl, inr, ⊎-elim, by-cases}
 use mathlib.Core.List.{List, [], _∷_}
@@ -8,7 +8,7 @@ use native.Mathlib.Omega.{arith}
 use Rattle.memory.specs.Bits.{Memory, bitAt}
 use Rattle.interleave.specs.Machine.{Machine, Held, Lawful, Accepted, heldAt, drawn}
 use Rattle.interleave.specs.Schedule.{Event, slice, other, State, Drawings, Fine, Done, In, next, run, ran, inTurn}
-use Rattle.interleave.specs.Claims.{Interleaved, Reached, Stopped, StaysDone}
+use Rattle.interleave.specs.Claims.{Interleaved, Stopped, StaysDone}
 use Rattle.interleave.proofs.VisitLaws.{upto}
 use Rattle.interleave.proofs.OrderLaws.{someOrder}
 use Rattle.interleave.proofs.JobLaws.{ordered, upto-good, alone}
@@ -67,13 +67,6 @@ module _ {D G : Type 0} {X : Machine D G} {w : ℕ} {W R : D → ℕ → ℕ →
             done-drew s I j (d j hj hr) .holds ∙ ap (λ (k : ℕ). heldAt X (S .jobs j) k (S .firstV j)) (e j hj hr)
             ∙ sym (handed-whole X (S .jobs j) (b j) (S .firstV j) _ (ap (X .refusal (S .jobs j) 0) g ∙ hr) (hb j hj));
       }
-
-  pub reached : Reached S
-  reached es f os o =
-      let s : State G = ran S es in
-      let I : Inv S s = inv-ran L S es f in
-      I .mem os o
-      ∙ in-turn (places s) (places s) (I .fits) (λ j hj hr. omega (arith, place-le s I j hj hr)) os (o .only) (S .memory) (S .good)
 
   pub stopped : Stopped S
   unfolding step

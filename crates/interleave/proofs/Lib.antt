@@ -7,5 +7,3 @@ pub mod CountLaws
 pub mod Invariant
 pub mod RunLaws
 pub mod Interleaved
-pub mod TwoDrawings
-pub mod Example

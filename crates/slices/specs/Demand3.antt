@@ -3,13 +3,12 @@
 use mathlib.Core.Path.{_≡_}
 use mathlib.Core.Bool.{Bool, false, cond}
 use mathlib.Core.List.{List, [], _∷_}
-use Prim.Native.Nat.{ℕ, _≤_, _<_}
+use Prim.Native.Nat.{ℕ, zero, suc, _≤_, _<_}
 use lib.Dec.{eqb}
 use lib.ListN.{length}
 use Rattle.memory.specs.Bits.{Memory, bitAt}
 use Rattle.interleave.specs.Machine.{Held, Accepted, BitsOf}
 use Rattle.interleave.specs.Schedule.{Event, slice, other, State, after, Fine, Done, BitsApart, Drawings}
-use Rattle.interleave.specs.Claims.{two}
 use Rattle.slices.specs.Slices.{Job, Registers, heldOf, outcomeOf, memoryAfter, keptBy, drawings, Writes, Reads}
 
 -- ---- a list of calls
@@ -39,6 +38,11 @@ abbrev pub before : (ℕ → Job) → (ℕ → Bool) → List ℕ → State Regi
 before jobs v m = record { memory = m; held = λ j. record { answer = 1; place = 0; v = v j; request = false; regs = keptBy (jobs j) } }
 
 -- ---- two drawings
+
+-- the first is number 0, the second number 1
+abbrev pub two : {A : Type 0} → A → A → ℕ → A
+two d e zero = d
+two d e (suc j) = e
 
 -- what a list of calls of d (number 0, first V v) and e (number 1, first V u) leads to, from memory m
 abbrev pub afterCalls : (d e : Job) (v u : Bool) → List ℕ → List (Event Job) → State Registers
