@@ -1,0 +1,184 @@
+#include "plain_call.h"
+
+#include "plain.h"
+#include "settings.h"
+
+#include <stdbool.h>
+
+struct form {
+    bool to_xy, from_xy;
+    enum plain_source from;
+};
+
+static const struct form forms[8] = {
+    { false, false, PLAIN_COLOR }, { true, false, PLAIN_COLOR },  { false, false, PLAIN_PIXELS },
+    { true, false, PLAIN_PIXELS }, { false, true, PLAIN_PIXELS }, { true, true, PLAIN_PIXELS },
+    { false, false, PLAIN_BITS },  { true, false, PLAIN_BITS },
+};
+
+static int32_t x_of(uint32_t xy)
+{
+    return (int16_t)(xy & 0xFFFF);
+}
+
+static int32_t y_of(uint32_t xy)
+{
+    return (int16_t)(xy >> 16);
+}
+
+/* ---- The window ---- */
+
+/* What is left off on the left and above, what is drawn, and V. */
+struct part {
+    uint32_t left, above, columns, rows, v;
+};
+
+/* How many coordinates lie before the window, and how many in it. */
+struct span {
+    uint32_t before, inside;
+};
+
+static struct span span_of(int32_t start, uint32_t count, int32_t first, int32_t last)
+{
+    int32_t from = start < first ? first : start;
+    int32_t end = start + (int32_t)count;
+    if (end > last + 1)
+        end = last + 1;
+    return (struct span){ (uint32_t)(from - start), from < end ? (uint32_t)(end - from) : 0 };
+}
+
+static struct part windowed(const struct part *whole, uint32_t w, const uint32_t *s)
+{
+    struct span x = span_of(x_of(s[DADDR]), whole->columns, x_of(s[WSTART]), x_of(s[WEND]));
+    struct span y = span_of(y_of(s[DADDR]), whole->rows, y_of(s[WSTART]), y_of(s[WEND]));
+    bool all = x.inside == whole->columns && y.inside == whole->rows;
+    if (w == 1)
+        return (struct part){ .v = x.inside != 0 && y.inside != 0 };
+    if (w == 2)
+        return all ? *whole : (struct part){ .v = 1 };
+    return (struct part){ x.before, y.before, x.inside, y.inside, !all };
+}
+
+static struct part part_of(const struct form *form, const uint32_t *s)
+{
+    struct part whole = { 0, 0, s[DYDX] & 0xFFFF, s[DYDX] >> 16, 0 };
+    uint32_t w = s[CONTROL] >> 6 & 3;
+    if (!form->to_xy || w == 0 || whole.columns == 0 || whole.rows == 0)
+        return whole;
+    return windowed(&whole, w, s);
+}
+
+/* ---- The refusals ---- */
+
+static bool bad_psize(uint32_t psize)
+{
+    return psize == 0 || psize > 16 || (psize & (psize - 1)) != 0;
+}
+
+static bool bad_control(uint32_t control)
+{
+    return (control >> 10 & 31) > 21 || (control & 0x300) != 0;
+}
+
+static bool bad_pitch(bool xy, uint32_t pitch)
+{
+    return xy ? pitch < 16 || (pitch & (pitch - 1)) != 0 : pitch % 16 != 0;
+}
+
+static bool bad_pitches(const struct form *form, const uint32_t *s)
+{
+    return bad_pitch(form->to_xy, s[DPTCH]) ||
+           (form->from == PLAIN_PIXELS && bad_pitch(form->from_xy, s[SPTCH]));
+}
+
+static bool bad_window(const struct form *form, const uint32_t *s)
+{
+    if (!form->to_xy || (s[CONTROL] & 0xC0) == 0)
+        return false;
+    int32_t left = x_of(s[WSTART]), top = y_of(s[WSTART]);
+    return left < 0 || top < 0 || x_of(s[WEND]) < left || y_of(s[WEND]) < top;
+}
+
+/* Is some pixel's address at the memory's end or above? A pitch above 2^31 walks down. */
+static bool past_end(size_t words, uint32_t start, uint32_t pitch, uint32_t step,
+                     const struct part *part)
+{
+    int64_t last = start + (int64_t)(part->rows - 1) * (int32_t)pitch;
+    int64_t greatest = last < start ? start : last;
+    return last < 0 || greatest + (int64_t)(part->columns - 1) * step >= 16 * (int64_t)words;
+}
+
+/* Where an array starts, and whether X or Y is negative there. */
+struct start {
+    uint32_t address;
+    bool negative;
+};
+
+static struct start start_of(bool xy, uint32_t at, uint32_t offset, uint32_t pitch, uint32_t step,
+                             const struct part *part)
+{
+    if (!xy)
+        return (struct start){ at + part->above * pitch + part->left * step, false };
+    int32_t x = x_of(at) + (int32_t)part->left;
+    int32_t y = y_of(at) + (int32_t)part->above;
+    return (struct start){ offset + (uint32_t)y * pitch + (uint32_t)x * step, x < 0 || y < 0 };
+}
+
+static bool bad_start(const struct start *start, uint32_t psize)
+{
+    return start->negative || start->address % psize != 0;
+}
+
+/* 11 to 14: what the settings alone decide. */
+static uint32_t settings_refusal(const struct form *form, const uint32_t *s)
+{
+    if (bad_psize(s[PSIZE]))
+        return 11;
+    if (bad_control(s[CONTROL]))
+        return 12;
+    if (bad_pitches(form, s))
+        return 13;
+    if (bad_window(form, s))
+        return 14;
+    return 0;
+}
+
+/* ---- The call ---- */
+
+/* 16 and 17 of a part that isn't empty, or 0 after it is drawn. */
+static uint32_t draw_part(uint16_t *memory, size_t words, const struct form *form,
+                          const uint32_t *s, const struct part *part)
+{
+    uint32_t step = form->from == PLAIN_BITS ? 1 : s[PSIZE];
+    struct start to = start_of(form->to_xy, s[DADDR], s[OFFSET], s[DPTCH], s[PSIZE], part);
+    struct start from = start_of(form->from_xy, s[SADDR], s[OFFSET], s[SPTCH], step, part);
+    if (bad_start(&to, s[PSIZE]) || (form->from == PLAIN_PIXELS && bad_start(&from, s[PSIZE])))
+        return 16;
+    if (past_end(words, to.address, s[DPTCH], s[PSIZE], part) ||
+        (form->from != PLAIN_COLOR && past_end(words, from.address, s[SPTCH], step, part)))
+        return 17;
+    const struct plain_drawing drawing = {
+        part->columns, part->rows, to.address, s[DPTCH], form->from, from.address, s[SPTCH], step,
+        s[PSIZE], s[CONTROL] >> 10 & 31, s[CONTROL] >> 5 & 1, s[PMASK], s[COLOR0], s[COLOR1]
+    };
+    plain_draw(memory, &drawing);
+    return 0;
+}
+
+struct plain_outcome plain_call(uint16_t *memory, size_t words, uint32_t draw,
+                                const uint32_t *settings)
+{
+    const struct form *form = &forms[draw];
+    if (words == 0 || words > 1048576)
+        return (struct plain_outcome){ .answer = 10 };
+    uint32_t refusal = settings_refusal(form, settings);
+    if (refusal != 0)
+        return (struct plain_outcome){ .answer = refusal };
+    struct part part = part_of(form, settings);
+    uint64_t pixels = (uint64_t)part.columns * part.rows;
+    if (pixels != 0)
+        refusal = draw_part(memory, words, form, settings, &part);
+    if (refusal != 0)
+        return (struct plain_outcome){ .answer = refusal };
+    return (struct plain_outcome){ 0, pixels, part.v };
+}
