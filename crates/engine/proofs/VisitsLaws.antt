@@ -1,17 +1,22 @@
--- Visits one after the other: none, one more, a slice and then another; the memory keeps its length and its words their 16 bits.
+-- Visits one after the other: none, one more, a slice and then another; the memory keeps its length and its words their 16 bits. What
+-- the first visit of a drawing in a colour draws.
 -- No contract cites this file. Assumes nothing.
-use mathlib.Core.Path.{_≡_, refl, ap, _∙_}
+use mathlib.Core.Path.{_≡_, refl, ap, ap₂, _∙_}
 use mathlib.Core.List.{List}
-use Prim.Native.Nat.{ℕ, zero, suc, _+_, _*_, _^_, _≤_, _<_}
-use native.Mathlib.Nat.{pos-of-ne-zero, zero-mul, add-zero, add-suc, add-assoc}
+use Prim.Native.Nat.{ℕ, zero, suc, _+_, _*_, _%_, _^_, _≤_, _<_}
+use native.Mathlib.Nat.{pos-of-ne-zero, zero-mul, zero-div, zero-mod, add-zero, add-suc, add-assoc}
 use native.Mathlib.Numerals.{add-one}
 use native.Mathlib.Omega.{arith}
 use lib.ListN.{length}
 use Rattle.memory.specs.Bits.{Memory}
+use Rattle.pixel.specs.Pixel.{topOf, plotted}
 use Rattle.pixel.proofs.PixelLaws.{length-plotted, memory-plotted}
+use Rattle.geometry.specs.Walk.{addressOf}
 use Rattle.geometry.proofs.Arithmetic.{product-lt}
+use Rattle.engine.specs.declared.Source.the-variants.{Color}
 use Rattle.engine.specs.declared.Drawing.{Drawing}
-use Rattle.engine.specs.Engine.{pixels, visitedFrom, drawnAt, visit, visits}
+use Rattle.engine.specs.Engine.{pixels, visitedFrom, srcOf, destOf, colorAt, drawnAt, visit, visits}
+use Rattle.engine.proofs.SourceLaws.{source-color}
 
 pub pixels-lt : (d : Drawing) → d .cols < 2 ^ 16 → d .rows < 2 ^ 16 → pixels d < 2 ^ 32
 pixels-lt d hc hr = product-lt 16 16 hc hr
@@ -55,3 +60,17 @@ module _ (d : Drawing) (k : ℕ) where
   unfolding visits
   visits-add a zero m = rw add-zero
   visits-add a (suc b) m = rw (add-suc, ← add-assoc k a b) (ap (visit d (k + a + b)) (visits-add a b m))
+
+-- ---- the first pixel of a drawing in a colour
+addressOf-first : (start cols pitch step : ℕ) → start < 2 ^ 32 → addressOf start cols pitch step 0 ≡ start
+unfolding addressOf
+addressOf-first start cols pitch step h =
+    ap₂ (λ (q r : ℕ). (start + q * pitch + r * step) % 2 ^ 32) (zero-div cols) (zero-mod cols) ∙ omega arith
+
+pub visits-first : (d : Drawing) → d .source ≡ Color → d .dest < 2 ^ 32 → (m : List ℕ)
+    → visits d 0 1 m ≡ plotted (d .pp) (d .t) (topOf (d .psize)) (d .pmask) (d .dest) (colorAt d (d .color1) (d .dest)) m
+unfolding visits drawnAt
+visits-first d e h m =
+    ap (λ (s : ℕ). plotted (d .pp) (d .t) (topOf (d .psize)) (d .pmask) (destOf d 0) s m) (source-color d (srcOf d 0) (destOf d 0) m e)
+    ∙ ap (λ (a : ℕ). plotted (d .pp) (d .t) (topOf (d .psize)) (d .pmask) a (colorAt d (d .color1) a) m)
+    (addressOf-first (d .dest) (d .cols) (d .dpitch) (d .psize) h)

@@ -1,13 +1,16 @@
 // PIXT between a register and memory, linear and XY, and DRAV.
 ghost use mathlib.Core.Path.{_≡_};
 ghost use mathlib.Core.Bool.{Bool};
-ghost use Prim.Native.Nat.{ℕ, _%_, _^_, _<_};
+ghost use Prim.Native.Nat.{ℕ, _*_, _%_, _^_, _<_};
 ghost use lib.ListN.{length};
 ghost use Rattle.pixel.specs.Control.{windowing};
+ghost use Rattle.pixel.specs.Pixel.{topOf, pixelOf};
 ghost use Rattle.geometry.specs.Window.{windowOf, badWindowing};
 ghost use Rattle.pixt.specs.Lone.{badStart, placeOf, windowed, refusal, linearPixel, xySource, xyDestination};
 ghost use Rattle.pixt.specs.Pixt.{refused, visited, drawnAt, lowBits, pixtTo, registerValue, pixtFrom};
 ghost use Rattle.pixt.specs.Drav.{colorAt, advanced, dravOf};
+use engine::Drawing;
+use engine::Source;
 use geometry::Clipped;
 use geometry::Rectangle;
 use settings::Settings;
@@ -52,7 +55,7 @@ pub fn pixt_to_linear(
     ensures { λ r. ⌜ (r ≡ pixtTo s v (linearPixel (length (now (memory .entry))) s address v)) × (now (memory .exit) ≡ drawnAt s (linearPixel (length (now (memory .entry))) s address v) (lowBits s value) (now (memory .entry))) ⌝ }
 {
     let l = linear_pixel(memory.len(), s, address, v);
-    draw(memory, s, l, low_bits(s, value));
+    draw(memory, s, l, at_place(value, l.address));
     done_to(s, v, l)
 }
 
@@ -61,7 +64,7 @@ pub fn pixt_to_xy(memory: &mut [u16], s: Settings, value: u32, xy: u32, v: bool)
     ensures { λ r. ⌜ (r ≡ pixtTo s v (xyDestination (length (now (memory .entry))) s xy v)) × (now (memory .exit) ≡ drawnAt s (xyDestination (length (now (memory .entry))) s xy v) (lowBits s value) (now (memory .entry))) ⌝ }
 {
     let l = xy_destination(memory.len(), s, xy, v);
-    draw(memory, s, l, low_bits(s, value));
+    draw(memory, s, l, at_place(value, l.address));
     done_to(s, v, l)
 }
 
@@ -86,8 +89,7 @@ pub fn drav(memory: &mut [u16], s: Settings, step: u32, point: u32, v: bool) -> 
     ensures { λ r. ⌜ (r ≡ dravOf s v point step (xyDestination (length (now (memory .entry))) s point v)) × (now (memory .exit) ≡ drawnAt s (xyDestination (length (now (memory .entry))) s point v) (colorAt s (placeOf s point)) (now (memory .entry))) ⌝ }
 {
     let l = xy_destination(memory.len(), s, point, v);
-    let source = color_at(s, l.address);
-    draw(memory, s, l, source);
+    draw(memory, s, l, (s.color1 % 65536) as u16);
     done_drav(s, v, point, step, l)
 }
 
@@ -229,32 +231,38 @@ fn windowed(s: Settings, xy: u32, v: bool) -> Clipped
 
 // ---- what is drawn, and what is handed back
 
-// Draws the pixel from a source, where the call is not refused and there is a pixel.
-fn draw(memory: &mut [u16], s: Settings, l: Lone, source: u16)
-    ensures { λ _. ⌜ now (memory .exit) ≡ drawnAt s l source (now (memory .entry)) ⌝ }
+// Draws the pixel in a colour, where the call is not refused and there is a pixel. A drawing of one pixel: the engine takes the colour
+// at the pixel's place in its word.
+fn draw(memory: &mut [u16], s: Settings, l: Lone, color: u16)
+    ensures { λ _. ⌜ now (memory .exit) ≡ drawnAt s l (pixelOf (topOf (s .psize)) color (l .address)) (now (memory .entry)) ⌝ }
 {
     if (l.answer == 0) & l.some {
         let pp = pixel::processing(s.control);
         let t = pixel::transparency(s.control);
-        let top = pixel::top_of(s.psize);
-        pixel::plot(memory, pp, t, top, s.pmask, l.address, source);
+        let d = Drawing {
+            cols: 1,
+            rows: 1,
+            dest: l.address,
+            dpitch: 0,
+            source: Source::Color,
+            src: 0,
+            spitch: 0,
+            psize: s.psize,
+            pp,
+            t,
+            pmask: s.pmask,
+            color0: 0,
+            color1: color,
+        };
+        engine::run(memory, d, 0, 1);
     }
 }
 
-// The low P bits of a register.
-fn low_bits(s: Settings, value: u32) -> u16
-    ensures { λ r. ⌜ r ≡ lowBits s value ⌝ }
+// A register's bits, shifted to an address's place in its word.
+fn at_place(value: u32, address: u32) -> u16
+    ensures { λ r. ⌜ r ≡ value * 2 ^ (address % 16) % 2 ^ 16 ⌝ }
 {
-    let top = pixel::top_of(s.psize);
-    ((value % 65536) as u16) & top
-}
-
-// The low 16 bits of COLOR1 at the pixel's place.
-fn color_at(s: Settings, address: u32) -> u16
-    ensures { λ r. ⌜ r ≡ colorAt s address ⌝ }
-{
-    let top = pixel::top_of(s.psize);
-    pixel::pixel_of(top, (s.color1 % 65536) as u16, address)
+    ((value << (address % 16)) % 65536) as u16
 }
 
 // The pixel with masked bits 0.

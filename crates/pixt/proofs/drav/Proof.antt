@@ -1,6 +1,5 @@
 -- `pixt::drav` meets its contract. Assumes nothing.
-use mathlib.Core.Path.{ap, ap₂, _∙_}
-use Prim.Native.Nat.{ℕ}
+use mathlib.Core.Path.{ap, _∙_}
 use Rattle.pixt.specs.declared.Lone.{Lone}
 use Rattle.pixt.specs.Lone.{xyDestination}
 use Rattle.pixt.specs.Pixt.{drawnAt}
@@ -12,8 +11,8 @@ use Rattle.pixt.proofs.drav.Tie as tie
 xy-destination-requires : tie.Need-xy-destination-requires
 xy-destination-requires c κs = search needs
 
-color-at-requires : tie.Need-color-at-requires
-color-at-requires c κs = search needs
+cast-draw : tie.Need-cast-draw
+cast-draw c = search needs
 
 draw-requires : tie.Need-draw-requires
 draw-requires c κs = search needs
@@ -28,13 +27,12 @@ returns : tie.Need-returns
 unfolding xyDestination
 returns c =
     let d = c .before .before .before in
-    let k = d .before .before in
-    let x = k .before in
+    let x = d .before .before .before in
     let a = x .before .before .args in
     let e = x .xy-destination .ensures in (
       cc,
       d .draw .ensures
-          ∙ ap₂ (λ (l : Lone) (b : ℕ). drawnAt (a .s) l b (a .memory .now)) e (k .color-at .ensures ∙ ap (λ (l : Lone). colorAt (a .s) (l .address)) e),
+          ∙ ap (λ (l : Lone). drawnAt (a .s) l (colorAt (a .s) (l .address)) (a .memory .now)) e,
     )
 
 pub drav-spec : {M : Type 1} → statement M
@@ -42,7 +40,7 @@ drav-spec =
     tie.close
     (tie.spec
     xy-destination-requires
-    color-at-requires
+    cast-draw
     draw-requires
     done-drav-requires
     same-length

@@ -1,5 +1,8 @@
 -- `pixt::draw` meets its contract. Assumes nothing.
+use mathlib.Core.Path.{refl, _∙_}
+use native.Mathlib.Omega.{arith}
 use borrow.Author.Needs.{needs}
+use Rattle.engine.proofs.VisitsLaws.{visits-first}
 use Rattle.pixt.proofs.draw.Statement.{statement}
 use Rattle.pixt.proofs.draw.Tie as tie
 
@@ -9,17 +12,18 @@ processing-requires c κs = search needs
 transparency-requires : tie.Need-transparency-requires
 transparency-requires c κs = search needs
 
-top-of-requires : tie.Need-top-of-requires
-top-of-requires c κs = search needs
-
-plot-requires : tie.Need-plot-requires
-plot-requires c κs = search needs
+run-requires : tie.Need-run-requires
+run-requires c κs = search needs
 
 same-length : tie.Need-same-length
 same-length c = search needs
 
 returns : tie.Need-returns
-returns c = rw (c .before .before .before .before .before .before .before .if1 .taken) (cc)
+returns c =
+    let r = c .before .before in
+    let u = r .before .before in
+    let p = u .before in
+    rw (p .before .if1 .taken) (r .run .ensures .1 ∙ visits-first _ refl (omega arith) _ ∙ rw (u .transparency .ensures, p .processing .ensures))
 
 returns-2 : tie.Need-returns-2
 returns-2 c = rw (c .if1 .left)
@@ -30,8 +34,7 @@ draw-spec =
     (tie.spec
     processing-requires
     transparency-requires
-    top-of-requires
-    plot-requires
+    run-requires
     same-length
     returns
     returns-2)

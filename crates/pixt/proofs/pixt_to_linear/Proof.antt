@@ -1,13 +1,15 @@
 -- `pixt::pixt_to_linear` meets its contract. Assumes nothing.
 use borrow.Author.Needs.{needs}
+use lib.ListN.{length}
+use Rattle.pixt.proofs.LoneLaws.{linearPixel-aligned, drawn-register}
 use Rattle.pixt.proofs.pixt_to_linear.Statement.{statement}
 use Rattle.pixt.proofs.pixt_to_linear.Tie as tie
 
 linear-pixel-requires : tie.Need-linear-pixel-requires
 linear-pixel-requires c κs = search needs
 
-low-bits-requires : tie.Need-low-bits-requires
-low-bits-requires c κs = search needs
+at-place-requires : tie.Need-at-place-requires
+at-place-requires c κs = search needs
 
 draw-requires : tie.Need-draw-requires
 draw-requires c κs = search needs
@@ -19,14 +21,19 @@ same-length : tie.Need-same-length
 same-length c = search needs
 
 returns : tie.Need-returns
-returns c = (cc, cc)
+returns c =
+    let d = c .before .before .before in
+    let k = d .before in
+    let p = k .before .before in
+    let a = p .before .before .args in
+    (cc, drawn-register (a .s) (a .value) (a .memory .now) (p .linear-pixel .ensures) (linearPixel-aligned (length (a .memory .now)) (a .s) (a .address) (a .v)) (k .at-place .ensures) (d .draw .ensures))
 
 pub pixt-to-linear-spec : {M : Type 1} → statement M
 pixt-to-linear-spec =
     tie.close
     (tie.spec
     linear-pixel-requires
-    low-bits-requires
+    at-place-requires
     draw-requires
     done-to-requires
     same-length

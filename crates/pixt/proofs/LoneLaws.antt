@@ -1,0 +1,92 @@
+-- A lone pixel drawn from a register: where the call is not refused the pixel lies in one word, so that the register's bits, shifted to
+-- the pixel's place, are found there again. No contract cites this file. Assumes nothing.
+use mathlib.Core.Path.{_≡_, refl, sym, ap, subst, _∙_}
+use mathlib.Core.Bool.{Bool, true, false, cond, _&&_}
+use mathlib.Core.List.{List}
+use Prim.Native.Nat.{ℕ, suc, _+_, _-_, _*_, _/_, _%_, _^_, _≤_}
+use native.Mathlib.Omega.{arith}
+use borrow.Author.Tests.{eqb-true, not-false}
+use lib.Bits.{bitAnd, and-mask}
+use lib.Dec.{eqb, leb}
+use lib.Pow.{field, shl-shr, mod-mod-pow}
+use Rattle.memory.specs.Bits.{noMemory}
+use Rattle.memory.proofs.Tests.{or-false-right, and-true-left, and-true-right}
+use Rattle.pixel.specs.Control.{transparency, processing, badControl}
+use Rattle.pixel.specs.Pixel.{badPixelSize, topOf, pixelOf, plotted}
+use Rattle.pixel.proofs.SizeLaws.{size-le, aligned-fits, topOf-ones}
+use Rattle.pixel.proofs.PixelLaws.{pixelOf-mod}
+use Rattle.geometry.specs.Coordinate.{xOf, yOf, negative}
+use Rattle.geometry.specs.Address.{misaligned}
+use Rattle.settings.specs.declared.Settings.{Settings}
+use Rattle.pixt.specs.declared.Lone.{Lone}
+use Rattle.pixt.specs.Lone.{refusal, linearPixel, placeOf, badStart, xyDestination}
+use Rattle.pixt.specs.Pixt.{drawnAt, lowBits}
+
+-- ---- a register's bits at a place in a word
+shifted-back : (i p k value : ℕ) → value * 2 ^ k % 2 ^ (i + p + k) / 2 ^ k % 2 ^ p ≡ value % 2 ^ p
+shifted-back i p k value =
+    ap (λ (x : ℕ). x % 2 ^ p) (field (value * 2 ^ k) (i + p) k ∙ ap (λ (x : ℕ). x % 2 ^ (i + p)) (shl-shr value k)) ∙ mod-mod-pow value i p
+
+pixelOf-shifted : (p a value : ℕ) → a % 16 + p ≤ 16 → pixelOf (2 ^ p - 1) (value * 2 ^ (a % 16) % 2 ^ 16) a ≡ bitAnd (value % 2 ^ 16) (2 ^ p - 1)
+pixelOf-shifted p a value h =
+    let e : 16 - (a % 16 + p) + p + a % 16 ≡ 16 = omega arith in
+    let f : 16 - p + p ≡ 16 = omega arith in
+    pixelOf-mod p _ a
+    ∙ subst (λ (n : ℕ). value * 2 ^ (a % 16) % 2 ^ n / 2 ^ (a % 16) % 2 ^ p ≡ value % 2 ^ p) e (shifted-back (16 - (a % 16 + p)) p (a % 16) value)
+    ∙ sym (and-mask (value % 2 ^ 16) p ∙ subst (λ (n : ℕ). value % 2 ^ n % 2 ^ p ≡ value % 2 ^ p) f (mod-mod-pow value (16 - p) p))
+
+-- ---- a pixel that is drawn has a size, and is aligned
+abbrev pub Aligned : Settings → Lone → Type 0
+Aligned s l = (eqb (l .answer) 0 && l .some) ≡ true → (badPixelSize (s .psize) ≡ false) × (misaligned (s .psize) (l .address) ≡ false)
+
+pass : (t : Bool) (n r : ℕ) → cond t (suc n) r ≡ 0 → (t ≡ false) × (r ≡ 0)
+pass true n r e = absurd (omega arith)
+pass false n r e = (refl, e)
+
+module _ (words : ℕ) (s : Settings) where
+  passes : (pitch window some start : Bool) (a : ℕ) → refusal words s pitch window some start a ≡ 0 → some ≡ true
+      → (badPixelSize (s .psize) ≡ false) × (start ≡ false)
+  unfolding refusal
+  passes pitch window some start a e h =
+      let e11 = pass (noMemory words) 9 _ e .1 in
+      let e12 = pass (badPixelSize (s .psize)) 10 _ e11 in
+      let e13 = pass (badControl (s .control)) 11 _ (e12 .1) .1 in
+      let e14 = pass pitch 12 _ e13 .1 in
+      let e16 = pass window 13 _ e14 .1 in
+      (e12 .0, sym (ap (λ (b : Bool). b && start) h) ∙ pass (some && start) 15 _ e16 .0)
+
+  pub linearPixel-aligned : (a : ℕ) (v : Bool) → Aligned s (linearPixel words s a v)
+  unfolding linearPixel
+  linearPixel-aligned a v e = passes _ _ true _ a (eqb-true _ 0 (and-true-left _ true e)) refl
+
+  pub xyDestination-aligned : (xy : ℕ) (v : Bool) → Aligned s (xyDestination words s xy v)
+  unfolding xyDestination
+  xyDestination-aligned xy v e =
+      let l : Lone = xyDestination words s xy v in
+      let p = passes _ _ (l .some) (badStart s xy) (placeOf s xy) (eqb-true _ 0 (and-true-left _ (l .some) e)) (and-true-right (eqb (l .answer) 0) _ e) in
+      (p .0, or-false-right (negative (yOf xy)) _ (or-false-right (negative (xOf xy)) _ (p .1)))
+
+-- ---- what is drawn from the shifted bits is what is drawn from the register
+module _ (s : Settings) (value : ℕ) (m : List ℕ) where
+  drawnAt-shifted : (l : Lone) → Aligned s l
+      → drawnAt s l (pixelOf (topOf (s .psize)) (value * 2 ^ (l .address % 16) % 2 ^ 16) (l .address)) m ≡ drawnAt s l (lowBits s value) m
+  drawnAt-shifted l h = go (eqb (l .answer) 0 && l .some) h
+    where
+      drawn : ℕ → List ℕ
+      drawn source = plotted (processing (s .control)) (transparency (s .control)) (topOf (s .psize)) (s .pmask) (l .address) source m
+
+      go : (b : Bool) → (b ≡ true → (badPixelSize (s .psize) ≡ false) × (misaligned (s .psize) (l .address) ≡ false))
+          → cond b (drawn (pixelOf (topOf (s .psize)) (value * 2 ^ (l .address % 16) % 2 ^ 16) (l .address))) m ≡ cond b (drawn (lowBits s value)) m
+      go false k = refl
+      go true k =
+          let size = k refl .0 in
+          let fit = aligned-fits (s .psize) size (l .address) (eqb-true _ 0 (not-false _ (k refl .1))) in
+          ap drawn (rw (topOf-ones (s .psize) (size-le (s .psize) size)) (pixelOf-shifted (s .psize) (l .address) value fit))
+
+  pub drawn-register : {l l′ : Lone} {color : ℕ} {m′ : List ℕ} → l ≡ l′ → Aligned s l′ → color ≡ value * 2 ^ (l .address % 16) % 2 ^ 16
+      → m′ ≡ drawnAt s l (pixelOf (topOf (s .psize)) color (l .address)) m → m′ ≡ drawnAt s l′ (lowBits s value) m
+  drawn-register {l} {l′} e h k d =
+      d
+      ∙ ap (λ (color : ℕ). drawnAt s l (pixelOf (topOf (s .psize)) color (l .address)) m) k
+      ∙ ap (λ (x : Lone). drawnAt s x (pixelOf (topOf (s .psize)) (value * 2 ^ (x .address % 16) % 2 ^ 16) (x .address)) m) e
+      ∙ drawnAt-shifted l′ h
