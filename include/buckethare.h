@@ -93,15 +93,6 @@ uint32_t bh_move_states(uint32_t address, uint32_t size, uint32_t mode, uint32_t
 
 /* ---- Single pixels ---- */
 
-/* The word after its pixel of psize bits at bit address `address` is drawn from s, into out[0].
-   Only the address's place in the word counts, and only the low psize bits of s. pp is the pixel
-   operation, 0 to 21, t isn't 0 for transparency, and pmask is the plane mask of the whole word.
-   A psize that is no pixel size, an address that isn't a multiple of it, or a pp above 21 isn't
-   refused: what they give is in the contract. Answers 0, or 9 (out is empty, or one of pp, psize,
-   pmask, s and word is above 65535). */
-uint32_t bh_word_after(uint32_t pp, uint32_t t, uint32_t psize, uint32_t pmask, uint32_t address,
-                       uint32_t s, uint32_t word, uint32_t *out, size_t out_length);
-
 /* The settings are 13 numbers, in this order: SADDR, SPTCH, DADDR, DPTCH, OFFSET, WSTART, WEND,
    DYDX, COLOR0, COLOR1, CONTROL, PSIZE, PMASK. The last three are at most 65535. An XY address, a
    point, a step, WSTART and WEND have X in the low and Y in the high 16 bits. */

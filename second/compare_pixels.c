@@ -1,98 +1,7 @@
-/* Compares single pixels: bh_word_after, PIXT and DRAV. */
+/* Compares single pixels: PIXT and DRAV. */
 #include "compare.h"
 
 #include <string.h>
-
-/* ---- A pixel of a word ---- */
-
-/* What bh_word_after takes beside the output array. */
-struct word_case {
-    uint32_t pp, t, psize, pmask, address, s, word;
-};
-
-static bool word_is_bad(const struct word_case *c)
-{
-    return c->pp > 65535 || c->psize > 65535 || c->pmask > 65535 || c->s > 65535
-           || c->word > 65535;
-}
-
-/* The model draws into a memory of one word. The source is a pixel: the low bits of s. */
-static uint32_t model_word(const struct word_case *c)
-{
-    uint16_t word = (uint16_t)c->word;
-    struct memory m = { &word, 1 };
-    struct settings s = { 0 };
-    s.CONTROL = (uint16_t)(c->pp << 10 | (uint32_t)(c->t != 0) << 5);
-    s.PSIZE = (uint16_t)c->psize;
-    s.PMASK = (uint16_t)c->pmask;
-    pixel_draw(m, &s, c->address % 16, pixel_of_word(c->s, 0, c->psize));
-    return word;
-}
-
-/* PP is 0 to 21, and the address a multiple of the pixel size, but where a number is too large. */
-static void compare_word(const struct word_case *c, size_t length)
-{
-    uint32_t out[OUTS], expected[OUTS];
-    clear_out(out);
-    calls++;
-    uint32_t answer =
-        bh_word_after(c->pp, c->t, c->psize, c->pmask, c->address, c->s, c->word, out, length);
-    bool bad = word_is_bad(c);
-    uint32_t result = bad ? 0 : model_word(c);
-    uint32_t wanted = expect_out(expected, bad ? 0 : length, &result, 1, DONE);
-    if (answer == wanted && memcmp(out, expected, sizeof out) == 0)
-        return;
-    print_case("word after");
-    printf("  PP %lu, T %lu, PSIZE %lu, PMASK %04lX, address %08lX, S %04lX, word %04lX\n",
-           (unsigned long)c->pp, (unsigned long)c->t, (unsigned long)c->psize,
-           (unsigned long)c->pmask, (unsigned long)c->address, (unsigned long)c->s,
-           (unsigned long)c->word);
-    printf("  out length %lu; library answers %lu, model %lu\n", (unsigned long)length,
-           (unsigned long)answer, (unsigned long)wanted);
-    print_numbers("library's out", out, OUTS);
-    print_numbers("model's out", expected, OUTS);
-    stop();
-}
-
-/* A word with these bits at a place, and any others. */
-static uint32_t around(uint32_t bits, uint32_t place, uint32_t psize)
-{
-    uint32_t top = ((uint32_t)1 << psize) - 1;
-    return (random32() & 0xFFFF & ~(top << place)) | bits << place;
-}
-
-/* Every mask, source and destination of this size, at every place, under one PP and T. */
-static void every_pixel(uint32_t pp, uint32_t t, uint32_t psize)
-{
-    uint32_t values = (uint32_t)1 << psize;
-    for (uint32_t place = 0; place < 16; place = place + psize) {
-        for (uint32_t i = 0; i < values * values * values; i++) {
-            struct word_case c = { pp, t, psize, 0, 0, i / values % values, 0 };
-            c.pmask = around(i % values, place, psize);
-            c.word = around(i / values / values, place, psize);
-            c.address = (random32() & 0xFFFFFFF0u) | place;
-            compare_word(&c, 1);
-        }
-    }
-}
-
-/* Any pixel; at times a number that is too large, or an output array of another length. */
-static void random_word_call(void)
-{
-    uint32_t psize = (uint32_t)1 << random_below(5);
-    struct word_case c = { random_below(22), random_below(2), psize, random32() & 0xFFFF,
-                           random32() & ~(psize - 1), random32() & 0xFFFF, random32() & 0xFFFF };
-    if (one_in(2))
-        c.pmask = c.pmask & random32() & random32();
-    if (one_in(32)) {
-        uint32_t *number[5] = { &c.pp, &c.psize, &c.pmask, &c.s, &c.word };
-        uint32_t *one = number[random_below(5)];
-        *one = *one + ((uint32_t)1 << (16 + random_below(16)));
-    }
-    if (one_in(16))
-        c.t = random32();
-    compare_word(&c, random_length(1));
-}
 
 /* ---- PIXT and DRAV ---- */
 
@@ -396,6 +305,60 @@ static void drav_edges(void)
             compare_pixel(&c, &m, NULL);
         }
     }
+}
+
+/* ---- A pixel of a memory of one word ---- */
+
+/* What decides the word after PIXT to a linear address; the other settings are 0. */
+struct word_case {
+    uint32_t pp, t, psize, pmask, place, value, word;
+};
+
+static void compare_word(const struct word_case *w)
+{
+    uint16_t before[2] = { (uint16_t)w->word, 0x5A5A }, mine[2], theirs[2];
+    memcpy(mine, before, sizeof mine);
+    memcpy(theirs, before, sizeof theirs);
+    struct pair m = { mine, theirs, 1, 2 };
+    struct pixel_case c = { TO_LINEAR, { 0 }, BH_SETTINGS, w->value, w->place, 0,
+                            BH_PIXEL_RESULTS };
+    c.number[AT_CONTROL] = w->pp << 10 | w->t << 5;
+    c.number[AT_PSIZE] = w->psize;
+    c.number[AT_PMASK] = w->pmask;
+    compare_pixel(&c, &m, before);
+}
+
+/* Any number with these bits at a place. */
+static uint32_t around(uint32_t bits, uint32_t place, uint32_t psize)
+{
+    uint32_t top = ((uint32_t)1 << psize) - 1;
+    return (random32() & ~(top << place)) | bits << place;
+}
+
+/* Every mask, source and destination of this size, at every place, under one PP and T. */
+static void every_pixel(uint32_t pp, uint32_t t, uint32_t psize)
+{
+    uint32_t values = (uint32_t)1 << psize;
+    for (uint32_t place = 0; place < 16; place = place + psize) {
+        for (uint32_t i = 0; i < values * values * values; i++) {
+            struct word_case w = { pp, t, psize, 0, place, 0, 0 };
+            w.pmask = around(i % values, place, psize) & 0xFFFF;
+            w.value = around(i / values % values, 0, psize);
+            w.word = around(i / values / values, place, psize) & 0xFFFF;
+            compare_word(&w);
+        }
+    }
+}
+
+/* Any pixel that isn't refused. */
+static void random_word_call(void)
+{
+    uint32_t psize = (uint32_t)1 << random_below(5);
+    struct word_case w = { random_below(22), random_below(2), psize, random32() & 0xFFFF,
+                           random_below(16 / psize) * psize, random32(), random32() & 0xFFFF };
+    if (one_in(2))
+        w.pmask = w.pmask & random32() & random32();
+    compare_word(&w);
 }
 
 /* ---- The run ---- */

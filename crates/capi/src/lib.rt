@@ -21,7 +21,6 @@ pub use pixels::bh_pixt_from_linear;
 pub use pixels::bh_pixt_from_xy;
 pub use pixels::bh_pixt_to_linear;
 pub use pixels::bh_pixt_to_xy;
-pub use pixels::bh_word_after;
 pub use plans::bh_experiment;
 pub use plans::bh_lines;
 pub use plans::bh_plan_read;

@@ -1,35 +1,13 @@
-// Single pixels: a pixel of a word, PIXT and DRAV.
+// Single pixels: PIXT and DRAV.
 ghost use mathlib.Core.Path.{_≡_};
 ghost use mathlib.Core.Bool.{cond};
-ghost use mathlib.Core.List.{[], _∷_};
 ghost use lib.ListN.{length};
-ghost use Rattle.pixel.specs.Pixel.{topOf, wordAfter};
 ghost use Rattle.pixt.specs.Lone.{placeOf, linearPixel, xySource, xyDestination};
 ghost use Rattle.pixt.specs.Pixt.{drawnAt, lowBits, pixtTo, pixtFrom};
 ghost use Rattle.pixt.specs.Drav.{colorAt, dravOf};
 ghost use Rattle.c_arrays.specs.Out.{isSet, answered, stored};
 ghost use Rattle.c_arrays.specs.Settings.{settingsOf};
-ghost use Rattle.c_pixel.specs.Word.{badWord};
 ghost use Rattle.c_pixt.specs.Pixt.{badPixel, pixtResults, dravResults};
-
-// A word after its pixel at an address is drawn from s; out[0] is the word.
-#[no_mangle]
-pub extern "C" fn bh_word_after(
-    pp: u32,
-    t: u32,
-    psize: u32,
-    pmask: u32,
-    address: u32,
-    s: u32,
-    word: u32,
-    out: &mut [u32],
-) -> u32
-    ensures { λ r. let o = now (out .entry) in let bad = badWord pp psize pmask s word o in
-        ⌜ (r ≡ answered bad 0)
-        × (now (out .exit) ≡ stored bad o (wordAfter pp (isSet t) (topOf psize) pmask address s word ∷ [])) ⌝ }
-{
-    c_pixel::word_after(pp, t, psize, pmask, address, s, word, out)
-}
 
 // PIXT register to memory at a linear address.
 #[no_mangle]
