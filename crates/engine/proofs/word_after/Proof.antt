@@ -1,10 +1,10 @@
 -- `word_after` meets its contract: the enabled bits of the pixel by the operation, put back with or without T.
 use mathlib.Core.Path.{sym, _∙_}
 use mathlib.Core.Bool.{true, false}
-use Prim.Native.Nat.{_^_, _≤_, _<_, min}
+use Prim.Native.Nat.{ℕ, _^_, _≤_, _<_, min}
 use native.Mathlib.Omega.{arith}
 use borrow.Author.Needs.{needs}
-use lib.Bits.{and-le-r}
+use lib.Bits.{bitAnd, and-le-r}
 use Rattle.pixel.proofs.PixelLaws.{complement-pixelOf-le}
 use Rattle.engine.proofs.WordLaws.{topOf-le, wordAfter-replaced}
 use Rattle.engine.proofs.word_after.Statement.{statement}
@@ -19,22 +19,23 @@ wide-requires c κs = search needs
 shifted-requires : tie.Need-shifted-requires
 shifted-requires c κs = search needs
 
--- no bit is enabled above the pixel
-planes-le : (c : tie.After-planes-at) → c .planes-at .result ≤ c .before .args .top
-planes-le c = rw (c .planes-at .ensures) (complement-pixelOf-le _ _ _)
+-- no bit is enabled above the pixel, and a pixel has at most 16
+planes-le : (c : tie.After-planes-at) → (c .planes-at .result ≤ c .before .args .top) × (c .before .args .top ≤ 65535)
+planes-le c = (rw (c .planes-at .ensures) (complement-pixelOf-le _ _ _), rw (c .before .pre) (topOf-le (c .before .args .d .psize)))
 
-planes-small : (c : tie.After-planes-at) → c .planes-at .result < 2 ^ 16
-planes-small c = omega (arith, planes-le c, c .before .pre, topOf-le (c .before .args .d .psize))
+-- a number cut to the enabled bits, or to all of the pixel's
+cut-le : (c : tie.After-planes-at) (x : ℕ) → (bitAnd x (c .planes-at .result) ≤ c .planes-at .result) × (bitAnd x (c .before .args .top) ≤ c .before .args .top)
+cut-le c x = (and-le-r x (c .planes-at .result), and-le-r x (c .before .args .top))
 
 process-requires : tie.Need-process-requires
 process-requires c κs =
     let p = c .before .before in
-    (p .before .pre, omega (arith, planes-le p, and-le-r (p .before .args .s) (p .planes-at .result)), omega (arith, planes-le p, and-le-r (c .shifted .result) (p .planes-at .result)))
+    (p .before .pre, omega (arith, planes-le p, cut-le p (p .before .args .s)), omega (arith, planes-le p, cut-le p (c .shifted .result)))
 
 unless-zero-requires : tie.Need-unless-zero-requires
 unless-zero-requires c κs =
     let p = c .before .before .before .before in
-    (planes-small p, omega (arith, planes-small p, and-le-r (c .before .process .result) (p .planes-at .result)))
+    (omega (arith, planes-le p), omega (arith, planes-le p, cut-le p (c .before .process .result)))
 
 returns : tie.Need-returns
 returns c =
@@ -49,7 +50,7 @@ returns c =
 replace-requires : tie.Need-replace-requires
 replace-requires c κs =
     let p = c .before .before .before .before in
-    (planes-small p, omega (arith, planes-small p, and-le-r (c .before .process .result) (p .planes-at .result)))
+    (omega (arith, planes-le p), omega (arith, planes-le p, cut-le p (c .before .process .result)))
 
 returns-2 : tie.Need-returns-2
 returns-2 c =

@@ -1,7 +1,9 @@
 -- `pixt::refusal_of` meets its contract. Assumes nothing.
 use mathlib.Core.Path.{_≡_, sym, _∙_}
-use mathlib.Core.Bool.{false}
+use mathlib.Core.Bool.{true, false, _&&_}
+use Prim.Native.Nat.{_*_}
 use native.Mathlib.Omega.{arith}
+use lib.Dec.{leb}
 use Rattle.memory.specs.Bits.{noMemory}
 use Rattle.memory.proofs.Tests.{sized}
 use Rattle.pixel.specs.Control.{badControl}
@@ -62,11 +64,19 @@ mul-if7 c =
 
 returns-7 : tie.Need-returns-7
 unfolding refusal
-returns-7 c = let e = c .before .before .before .before in rw (past-10 (e .before .before .before .before), past-11 (e .before .before), past-12 e, c .before .before .before .if4 .left, c .before .before .if5 .left, c .before .if6 .left, c .if7 .taken)
+returns-7 c =
+    let e = c .before .before .before .before in
+    let x = e .before .before .before .before .before .before .args in
+    let past : (x .some && leb (16 * x .words) (x .address)) ≡ true = c .if7 .taken in
+    rw (past-10 (e .before .before .before .before), past-11 (e .before .before), past-12 e, c .before .before .before .if4 .left, c .before .before .if5 .left, c .before .if6 .left, past)
 
 returns-8 : tie.Need-returns-8
 unfolding refusal
-returns-8 c = let e = c .before .before .before .before in rw (past-10 (e .before .before .before .before), past-11 (e .before .before), past-12 e, c .before .before .before .if4 .left, c .before .before .if5 .left, c .before .if6 .left, c .if7 .left)
+returns-8 c =
+    let e = c .before .before .before .before in
+    let x = e .before .before .before .before .before .before .args in
+    let inside : (x .some && leb (16 * x .words) (x .address)) ≡ false = c .if7 .left in
+    rw (past-10 (e .before .before .before .before), past-11 (e .before .before), past-12 e, c .before .before .before .if4 .left, c .before .before .if5 .left, c .before .if6 .left, inside)
 
 pub refusal-of-spec : {M : Type 1} → statement M
 refusal-of-spec =
