@@ -7,7 +7,7 @@ use Prim.Native.Nat.{ℕ, suc, _+_, _-_, _*_, _/_, _%_, _^_, _≤_}
 use native.Mathlib.Omega.{arith}
 use borrow.Author.Tests.{eqb-true, not-false}
 use lib.Bits.{bitAnd, and-mask}
-use lib.Dec.{eqb, leb}
+use lib.Dec.{eqb}
 use lib.Pow.{field, shl-shr, mod-mod-pow}
 use Rattle.memory.specs.Bits.{noMemory}
 use Rattle.memory.proofs.Tests.{or-false-right, and-true-left, and-true-right}
@@ -39,6 +39,7 @@ pixelOf-shifted p a value h =
 abbrev pub Aligned : Settings → Lone → Type 0
 Aligned s l = (eqb (l .answer) 0 && l .some) ≡ true → (badPixelSize (s .psize) ≡ false) × (misaligned (s .psize) (l .address) ≡ false)
 
+-- where the first number that applies is 0, a test has failed, and so have the rest
 pass : (t : Bool) (n r : ℕ) → cond t (suc n) r ≡ 0 → (t ≡ false) × (r ≡ 0)
 pass true n r e = absurd (omega arith)
 pass false n r e = (refl, e)
@@ -83,6 +84,7 @@ module _ (s : Settings) (value : ℕ) (m : List ℕ) where
           let fit = aligned-fits (s .psize) size (l .address) (eqb-true _ 0 (not-false _ (k refl .1))) in
           ap drawn (rw (topOf-ones (s .psize) (size-le (s .psize) size)) (pixelOf-shifted (s .psize) (l .address) value fit))
 
+  -- the same by the equations that the calls give
   pub drawn-register : {l l′ : Lone} {color : ℕ} {m′ : List ℕ} → l ≡ l′ → Aligned s l′ → color ≡ value * 2 ^ (l .address % 16) % 2 ^ 16
       → m′ ≡ drawnAt s l (pixelOf (topOf (s .psize)) color (l .address)) m → m′ ≡ drawnAt s l′ (lowBits s value) m
   drawn-register {l} {l′} e h k d =
