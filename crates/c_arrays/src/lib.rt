@@ -1,10 +1,11 @@
 // What the calls for C share: flags as numbers, results in an output array, and the settings as thirteen numbers of an array.
 ghost use mathlib.Core.Path.{_≡_};
-ghost use Prim.Native.Nat.{_%_, _^_, _≤_};
+ghost use Prim.Native.Nat.{_≤_};
 ghost use lib.ListN.{getD};
 ghost use lib.Seq.{sets};
+ghost use Rattle.settings.specs.Settings.{settingsOf};
 ghost use Rattle.c_arrays.specs.Out.{bitOf};
-ghost use Rattle.c_arrays.specs.Settings.{badSettings, settingsOf};
+ghost use Rattle.c_arrays.specs.Settings.{badSettings};
 use settings::Settings;
 
 // A flag as a number.
@@ -46,26 +47,27 @@ pub fn bad_settings(settings: &[u32]) -> bool
 pub fn settings_of(settings: &[u32]) -> Settings
     ensures { λ r. ⌜ r ≡ settingsOf (now (settings .entry)) ⌝ }
 {
-    Settings {
-        saddr: number_at(settings, 0),
-        sptch: number_at(settings, 1),
-        daddr: number_at(settings, 2),
-        dptch: number_at(settings, 3),
-        offset: number_at(settings, 4),
-        wstart: number_at(settings, 5),
-        wend: number_at(settings, 6),
-        dydx: number_at(settings, 7),
-        color0: number_at(settings, 8),
-        color1: number_at(settings, 9),
-        control: low_half(number_at(settings, 10)),
-        psize: low_half(number_at(settings, 11)),
-        pmask: low_half(number_at(settings, 12)),
-    }
+    let numbers = [
+        wide_at(settings, 0),
+        wide_at(settings, 1),
+        wide_at(settings, 2),
+        wide_at(settings, 3),
+        wide_at(settings, 4),
+        wide_at(settings, 5),
+        wide_at(settings, 6),
+        wide_at(settings, 7),
+        wide_at(settings, 8),
+        wide_at(settings, 9),
+        wide_at(settings, 10),
+        wide_at(settings, 11),
+        wide_at(settings, 12),
+    ];
+    settings::settings_of(&numbers)
 }
 
-// The low 16 bits of a number.
-fn low_half(x: u32) -> u16
-    ensures { λ r. ⌜ r ≡ x % 2 ^ 16 ⌝ }
+// `number_at` in 64 bits.
+fn wide_at(numbers: &[u32], at: usize) -> u64
+    ensures { λ r. ⌜ r ≡ getD (now (numbers .entry)) at 0 ⌝ }
 {
-    (x % 65536) as u16
+    number_at(numbers, at) as u64
 }

@@ -5,7 +5,7 @@ ghost use lib.ListN.{length};
 ghost use lib.Seq.{sets};
 ghost use Rattle.drawing.specs.Draw.{outcome, drawn};
 ghost use Rattle.c_arrays.specs.Out.{isSet, answered, stored};
-ghost use Rattle.c_arrays.specs.Settings.{settingsOf};
+ghost use Rattle.settings.specs.Settings.{settingsOf};
 ghost use Rattle.c_draw.specs.Draw.{operationOf, badDraw, results, resultsOf};
 use drawing::Operation;
 

@@ -7,7 +7,7 @@ ghost use Rattle.pixt.specs.Lone.{placeOf, linearPixel, xySource, xyDestination
 ghost use Rattle.pixt.specs.Pixt.{drawnAt, lowBits, pixtTo, pixtFrom};
 ghost use Rattle.pixt.specs.Drav.{colorAt, dravOf};
 ghost use Rattle.c_arrays.specs.Out.{isSet, answered, stored};
-ghost use Rattle.c_arrays.specs.Settings.{settingsOf};
+ghost use Rattle.settings.specs.Settings.{settingsOf};
 ghost use Rattle.c_pixt.specs.Pixt.{badPixel, results, pixtResults, dravResults};
 
 // PIXT register to memory at a linear address.

@@ -8,6 +8,7 @@ use Rattle.pixel.specs.Pixel.{pixelOf, result, pixelAfter, withPixel, wordAfter
 use Rattle.geometry.specs.Address.{xyAddress, badXYPitch}
 use Rattle.geometry.specs.Window.{common, clipped}
 use Rattle.geometry.specs.Walk.{addressOf, reaches, leavesMemory}
+use Rattle.settings.specs.Settings.{settingsOf}
 use Rattle.engine.specs.Engine.{sourceAt, drawnAt, visits}
 use Rattle.drawing.specs.Array.{part, vAfter, destStart, srcStart, drawingOf}
 use Rattle.drawing.specs.Refusal.{refusalOf, refusal}
@@ -20,5 +21,5 @@ use Rattle.run.specs.Lines.{pointLines}
 use Rattle.run.specs.Example.{Example}
 
 pub example : Example
-unfolding bitOf bitAt differing changedBits stepped operations processed pixelOf result pixelAfter withPixel wordAfter plotted xyAddress badXYPitch common clipped addressOf reaches leavesMemory sourceAt drawnAt visits part vAfter destStart srcStart drawingOf refusalOf refusal outcomeAt outcome drawn count indices assigned experiment digits numbersLine ranOver pointLine pointLines
+unfolding bitOf bitAt differing changedBits stepped operations processed pixelOf result pixelAfter withPixel wordAfter plotted xyAddress badXYPitch common clipped addressOf reaches leavesMemory settingsOf sourceAt drawnAt visits part vAfter destStart srcStart drawingOf refusalOf refusal outcomeAt outcome drawn count indices assigned experiment digits numbersLine ranOver pointLine pointLines
 example = refl

@@ -6,15 +6,16 @@ use native.Mathlib.Nat.{mod-eq-of-lt}
 use lib.ListN.{getD}
 use Rattle.image.specs.Image.{image}
 use Rattle.image.proofs.SeedLaws.{image-inj}
+use Rattle.settings.specs.Settings.{settingsOf}
 use Rattle.points.specs.Axes.{limit}
 use Rattle.points.specs.Points.{experiment}
 use Rattle.points.proofs.ExperimentLaws.{experiment-named, experiment-lt-limit}
-use Rattle.run.specs.Run.{settingsOf, seedOf}
+use Rattle.run.specs.Run.{seedOf}
 use Rattle.run.specs.Values.{asGiven, SettingsKept, SeedKept, SeedsTold}
 
 -- values below their limits are settings as they are
 pub settingsOf-asGiven : (vs : List ℕ) → ((i : ℕ) → getD vs i 0 < limit i) → settingsOf vs ≡ asGiven vs
-unfolding limit
+unfolding limit settingsOf
 settingsOf-asGiven vs h =
     rw (
       mod-eq-of-lt (h 0),

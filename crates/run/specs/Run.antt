@@ -1,11 +1,12 @@
 -- One point of a plan, run (the scope, "Plans and images"). Assumes nothing.
 use mathlib.Core.Bool.{Bool, false, cond}
 use mathlib.Core.List.{List, [], _∷_}
-use Prim.Native.Nat.{ℕ, _-_, _%_, _^_}
+use Prim.Native.Nat.{ℕ, _-_, _^_}
 use lib.ListN.{length, getD}
 use Rattle.memory.specs.Changed.{changedBits}
 use Rattle.image.specs.Image.{image}
 use Rattle.settings.specs.declared.Settings.{Settings}
+use Rattle.settings.specs.Settings.{settingsOf}
 use Rattle.drawing.specs.declared.Operation.{Operation}
 use Rattle.drawing.specs.declared.Operation.the-variants.{FillL, FillXY, PixbltLL, PixbltLXY, PixbltXYL, PixbltXYXY, PixbltBL, PixbltBXY}
 use Rattle.drawing.specs.Draw.{outcome, drawn}
@@ -21,26 +22,8 @@ operations = FillL ∷ FillXY ∷ PixbltLL ∷ PixbltLXY ∷ PixbltXYL ∷ Pixbl
 abbrev pub operationOf : ℕ → Operation
 operationOf draw = getD operations draw PixbltBXY
 
--- the settings of an experiment: the first thirteen of its fourteen values, which their limits let through whole
-abbrev pub settingsOf : List ℕ → Settings
-settingsOf vs =
-    record {
-      saddr = getD vs 0 0 % 2 ^ 32;
-      sptch = getD vs 1 0 % 2 ^ 32;
-      daddr = getD vs 2 0 % 2 ^ 32;
-      dptch = getD vs 3 0 % 2 ^ 32;
-      offset = getD vs 4 0 % 2 ^ 32;
-      wstart = getD vs 5 0 % 2 ^ 32;
-      wend = getD vs 6 0 % 2 ^ 32;
-      dydx = getD vs 7 0 % 2 ^ 32;
-      color0 = getD vs 8 0 % 2 ^ 32;
-      color1 = getD vs 9 0 % 2 ^ 32;
-      control = getD vs 10 0 % 2 ^ 16;
-      psize = getD vs 11 0 % 2 ^ 16;
-      pmask = getD vs 12 0 % 2 ^ 16;
-    }
-
--- SEED is the last one
+-- An experiment is fourteen values. The first thirteen are its settings (`settingsOf`), which their limits let through whole;
+-- SEED is the last one.
 abbrev pub seedOf : List ℕ → ℕ
 seedOf vs = getD vs 13 0
 

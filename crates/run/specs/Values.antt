@@ -5,29 +5,15 @@ use Prim.Native.Nat.{ℕ, _≤_, _<_}
 use lib.ListN.{length, getD}
 use Rattle.image.specs.Image.{image}
 use Rattle.settings.specs.declared.Settings.{Settings}
+use Rattle.settings.specs.Settings.{inOrder, settingsOf}
 use Rattle.points.specs.Axes.{Axis}
 use Rattle.points.specs.Points.{indices, experiment}
 use Rattle.points.specs.OneToOne.{Sound}
-use Rattle.run.specs.Run.{settingsOf, seedOf, imageFor}
+use Rattle.run.specs.Run.{seedOf, imageFor}
 
 -- the first thirteen of the fourteen values, as they are
 abbrev pub asGiven : List ℕ → Settings
-asGiven vs =
-    record {
-      saddr = getD vs 0 0;
-      sptch = getD vs 1 0;
-      daddr = getD vs 2 0;
-      dptch = getD vs 3 0;
-      offset = getD vs 4 0;
-      wstart = getD vs 5 0;
-      wend = getD vs 6 0;
-      dydx = getD vs 7 0;
-      color0 = getD vs 8 0;
-      color1 = getD vs 9 0;
-      control = getD vs 10 0;
-      psize = getD vs 11 0;
-      pmask = getD vs 12 0;
-    }
+asGiven vs = inOrder (λ i. getD vs i 0)
 
 -- the drawing takes the settings as they are
 abbrev pub SettingsKept : Type 0

@@ -5,11 +5,12 @@ ghost use Prim.Native.Nat.{_+_, _*_, _^_, _<_, _≤_};
 ghost use lib.ListN.{length};
 ghost use Rattle.memory.specs.Bits.{noMemory};
 ghost use Rattle.image.specs.Image.{image};
+ghost use Rattle.settings.specs.Settings.{settingsOf};
 ghost use Rattle.drawing.specs.Draw.{drawn};
 ghost use Rattle.points.specs.Points.{experiment};
 ghost use Rattle.points.specs.Table.{axesIn, pointsIn};
 ghost use Rattle.listing.specs.Listing.{put};
-ghost use Rattle.run.specs.Run.{operationOf, settingsOf, seedOf, whole, ranOver, bit, lineOf, imageFor, memoryFor, pointLine};
+ghost use Rattle.run.specs.Run.{operationOf, seedOf, whole, ranOver, bit, lineOf, imageFor, memoryFor, pointLine};
 ghost use Rattle.run.specs.Lines.{pointLines, longest, afterLast, badShape, endsPast, linesOf, written, imageAfter, memoryAfter};
 ghost use Rattle.run.specs.Progress.{Holds, progressed};
 use drawing::Operation;
@@ -42,40 +43,6 @@ fn operation_of(draw: u64) -> Operation
         5 => Operation::PixbltXYXY,
         6 => Operation::PixbltBL,
         _ => Operation::PixbltBXY,
-    }
-}
-
-// The settings of an experiment.
-fn settings_of(values: &[u64; 14]) -> Settings
-    ensures { λ r. ⌜ r ≡ settingsOf (now (values .entry)) ⌝ }
-{
-    let saddr = (values[0] % 4294967296) as u32;
-    let sptch = (values[1] % 4294967296) as u32;
-    let daddr = (values[2] % 4294967296) as u32;
-    let dptch = (values[3] % 4294967296) as u32;
-    let offset = (values[4] % 4294967296) as u32;
-    let wstart = (values[5] % 4294967296) as u32;
-    let wend = (values[6] % 4294967296) as u32;
-    let dydx = (values[7] % 4294967296) as u32;
-    let color0 = (values[8] % 4294967296) as u32;
-    let color1 = (values[9] % 4294967296) as u32;
-    let control = (values[10] % 65536) as u16;
-    let psize = (values[11] % 65536) as u16;
-    let pmask = (values[12] % 65536) as u16;
-    Settings {
-        saddr,
-        sptch,
-        daddr,
-        dptch,
-        offset,
-        wstart,
-        wend,
-        dydx,
-        color0,
-        color1,
-        control,
-        psize,
-        pmask,
     }
 }
 
@@ -131,7 +98,7 @@ fn experiment_of(table: &[u64], axes: u64, point: u64) -> Experiment
 {
     let mut values = [0u64; 14];
     points::experiment(table, axes, point, &mut values);
-    let settings = settings_of(&values);
+    let settings = settings::settings_of(&values);
     Experiment {
         settings,
         seed: values[13],

@@ -1,4 +1,9 @@
 // The settings of a drawing: the scope's thirteen names, in its order. CONTROL, PSIZE and PMASK are 16 bits wide.
+ghost use mathlib.Core.Path.{_≡_};
+ghost use Prim.Native.Nat.{_%_, _^_};
+ghost use lib.ListN.{getD};
+ghost use Rattle.settings.specs.Settings.{settingsOf};
+
 pub struct Settings {
     pub saddr: u32,
     pub sptch: u32,
@@ -13,4 +18,46 @@ pub struct Settings {
     pub control: u16,
     pub psize: u16,
     pub pmask: u16,
+}
+
+// The settings that the first thirteen numbers are; one past the end is 0.
+pub fn settings_of(numbers: &[u64]) -> Settings
+    ensures { λ r. ⌜ r ≡ settingsOf (now (numbers .entry)) ⌝ }
+{
+    Settings {
+        saddr: word_at(numbers, 0),
+        sptch: word_at(numbers, 1),
+        daddr: word_at(numbers, 2),
+        dptch: word_at(numbers, 3),
+        offset: word_at(numbers, 4),
+        wstart: word_at(numbers, 5),
+        wend: word_at(numbers, 6),
+        dydx: word_at(numbers, 7),
+        color0: word_at(numbers, 8),
+        color1: word_at(numbers, 9),
+        control: half_at(numbers, 10),
+        psize: half_at(numbers, 11),
+        pmask: half_at(numbers, 12),
+    }
+}
+
+// The low 32 bits of a number.
+fn word_at(numbers: &[u64], at: usize) -> u32
+    ensures { λ r. ⌜ r ≡ getD (now (numbers .entry)) at 0 % 2 ^ 32 ⌝ }
+{
+    (number_at(numbers, at) % 4294967296) as u32
+}
+
+// The low 16 bits of a number.
+fn half_at(numbers: &[u64], at: usize) -> u16
+    ensures { λ r. ⌜ r ≡ getD (now (numbers .entry)) at 0 % 2 ^ 16 ⌝ }
+{
+    (number_at(numbers, at) % 65536) as u16
+}
+
+// A number; one past the end is 0.
+fn number_at(numbers: &[u64], at: usize) -> u64
+    ensures { λ r. ⌜ r ≡ getD (now (numbers .entry)) at 0 ⌝ }
+{
+    if at < numbers.len() { numbers[at] } else { 0 }
 }

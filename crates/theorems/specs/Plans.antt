@@ -5,6 +5,7 @@ use mathlib.Core.List.{List, _++_}
 use Prim.Native.Nat.{ℕ, _+_, _*_, _≤_, _<_}
 use lib.Dec.{eqb}
 use lib.ListN.{length}
+use Rattle.settings.specs.Settings.{settingsOf}
 use Rattle.points.specs.Axes.{count}
 use Rattle.points.specs.Points.{experiment}
 use Rattle.points.specs.Table.{axesIn, pointsIn}
@@ -12,7 +13,7 @@ use Rattle.points.specs.OneToOne.{OneToOne}
 use Rattle.plan.specs.Reading.{Reading, reading}
 use Rattle.plan.specs.Table.{room, tableAfter}
 use Rattle.listing.specs.Listing.{heading, refusedLine}
-use Rattle.run.specs.Run.{settingsOf, seedOf, imageFor}
+use Rattle.run.specs.Run.{seedOf, imageFor}
 use Rattle.run.specs.Values.{asGiven}
 use Rattle.run.specs.Lines.{pointLines, longest, written}
 
