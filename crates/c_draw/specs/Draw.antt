@@ -1,22 +1,13 @@
--- FILL and PIXBLT for C: operations as numbers, bad arguments, and the seven results. Assumes nothing.
+-- FILL and PIXBLT for C: bad arguments, and the seven results. Assumes nothing.
 use mathlib.Core.Bool.{Bool, _||_}
 use mathlib.Core.List.{List, [], _∷_}
 use Prim.Native.Nat.{ℕ}
 use lib.Dec.{ltb}
-use lib.ListN.{getD}
-use Rattle.drawing.specs.declared.Operation.{Operation}
-use Rattle.drawing.specs.declared.Operation.the-variants.{FillL, FillXY, PixbltLL, PixbltLXY, PixbltXYL, PixbltXYXY, PixbltBL, PixbltBXY}
 use Rattle.drawing.specs.declared.Outcome.{Outcome}
 use Rattle.c_arrays.specs.Out.{bitOf, short}
 use Rattle.c_arrays.specs.Settings.{badSettings}
 
--- the numbers 0 to 7 are the operations in the scope's order ("What is modelled"); no other number is one
-abbrev pub operations : List Operation
-operations = FillL ∷ FillXY ∷ PixbltLL ∷ PixbltLXY ∷ PixbltXYL ∷ PixbltXYXY ∷ PixbltBL ∷ PixbltBXY ∷ []
-
-unfoldable pub operationOf : ℕ → Operation
-operationOf n = getD operations n PixbltBXY
-
+-- the numbers 0 to 7 are the operations; no other number is one
 abbrev pub badOperation : ℕ → Bool
 badOperation n = ltb 7 n
 

@@ -3,11 +3,11 @@ ghost use mathlib.Core.Path.{_≡_};
 ghost use mathlib.Core.Bool.{cond};
 ghost use lib.ListN.{length};
 ghost use lib.Seq.{sets};
+ghost use Rattle.drawing.specs.Operation.{operationOf};
 ghost use Rattle.drawing.specs.Draw.{outcome, drawn};
 ghost use Rattle.c_arrays.specs.Out.{isSet, answered, stored};
 ghost use Rattle.settings.specs.Settings.{settingsOf};
-ghost use Rattle.c_draw.specs.Draw.{operationOf, badDraw, results, resultsOf};
-use drawing::Operation;
+ghost use Rattle.c_draw.specs.Draw.{badDraw, results, resultsOf};
 
 // A FILL or PIXBLT call; out has the new place, the pixels visited by this call, V, the request, SADDR, DADDR and DYDX.
 pub fn draw(
@@ -29,7 +29,7 @@ pub fn draw(
     if (out.len() < 7) | ((7 < operation) | c_arrays::bad_settings(settings)) {
         return 9;
     }
-    let op = operation_of(operation);
+    let op = drawing::operation_of(wide(operation));
     let s = c_arrays::settings_of(settings);
     let r = drawing::draw(memory, op, s, place, v != 0, budget);
     hand_out(
@@ -43,22 +43,6 @@ pub fn draw(
         r.dydx,
     );
     r.answer
-}
-
-// The operation of a number; above 7 there is none.
-fn operation_of(operation: u32) -> Operation
-    ensures { λ r. ⌜ r ≡ operationOf operation ⌝ }
-{
-    match operation {
-        0 => Operation::FillL,
-        1 => Operation::FillXY,
-        2 => Operation::PixbltLL,
-        3 => Operation::PixbltLXY,
-        4 => Operation::PixbltXYL,
-        5 => Operation::PixbltXYXY,
-        6 => Operation::PixbltBL,
-        _ => Operation::PixbltBXY,
-    }
 }
 
 // Stores the seven results at the array's start.

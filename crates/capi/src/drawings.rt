@@ -2,10 +2,11 @@
 ghost use mathlib.Core.Path.{_≡_};
 ghost use mathlib.Core.Bool.{cond};
 ghost use lib.ListN.{length};
+ghost use Rattle.drawing.specs.Operation.{operationOf};
 ghost use Rattle.drawing.specs.Draw.{outcome, drawn};
 ghost use Rattle.c_arrays.specs.Out.{isSet, answered, stored};
 ghost use Rattle.settings.specs.Settings.{settingsOf};
-ghost use Rattle.c_draw.specs.Draw.{operationOf, badDraw, resultsOf};
+ghost use Rattle.c_draw.specs.Draw.{badDraw, resultsOf};
 
 // A FILL or PIXBLT call; out has the new place, the pixels visited by this call, V, the request, SADDR, DADDR and DYDX.
 #[no_mangle]

@@ -1,9 +1,19 @@
 -- The eight drawings: FILL L and XY; PIXBLT L,L, L,XY, XY,L, XY,XY, B,L and B,XY (the scope, "What is modelled"). Assumes nothing.
 use mathlib.Core.Bool.{Bool, true, false}
+use mathlib.Core.List.{List, [], _∷_}
+use Prim.Native.Nat.{ℕ}
+use lib.ListN.{getD}
 use Rattle.engine.specs.declared.Source.{Source}
 use Rattle.engine.specs.declared.Source.the-variants.{Color, Pixels, Bits}
 use Rattle.drawing.specs.declared.Operation.{Operation}
 use Rattle.drawing.specs.declared.Operation.the-variants.{FillL, FillXY, PixbltLL, PixbltLXY, PixbltXYL, PixbltXYXY, PixbltBL, PixbltBXY}
+
+-- the eight, numbered from 0 in that order; any other number is the last one's
+abbrev pub operations : List Operation
+operations = FillL ∷ FillXY ∷ PixbltLL ∷ PixbltLXY ∷ PixbltXYL ∷ PixbltXYXY ∷ PixbltBL ∷ PixbltBXY ∷ []
+
+abbrev pub operationOf : ℕ → Operation
+operationOf number = getD operations number PixbltBXY
 
 -- the destination is XY
 abbrev pub toXY : Operation → Bool

@@ -5,7 +5,7 @@ ghost use lib.Dec.{eqb};
 ghost use Prim.Native.Nat.{ℕ, _+_, _*_, _%_, _^_, _<_, _≤_};
 ghost use lib.ListN.{length};
 ghost use Rattle.engine.specs.Engine.{stepOf, pixels};
-ghost use Rattle.drawing.specs.Operation.{toXY, fromXY, sourceOf, copies, copiesPixels};
+ghost use Rattle.drawing.specs.Operation.{operationOf, toXY, fromXY, sourceOf, copies, copiesPixels};
 ghost use Rattle.drawing.specs.Array.{rectangleOf, part, vAfter, startX, startY, destStart, srcStart, drawingOf, drawingFor};
 ghost use Rattle.drawing.specs.Refusal.{badPitch, badPitches, badWindowOf, negativeStart, badDest, badSource, leaves, refusalOf};
 ghost use Rattle.drawing.specs.Draw.{refused, found, commonOf, doneSome, rowAfter, outcomeAt, outcome, drawn};
@@ -39,6 +39,22 @@ pub struct Outcome {
     pub daddr: u32,
     pub dydx: u32,
     pub settings: Settings,
+}
+
+// The drawing of a number: 0 to 7 in the scope's order, and the last one for any other.
+pub fn operation_of(number: u64) -> Operation
+    ensures { λ r. ⌜ r ≡ operationOf number ⌝ }
+{
+    match number {
+        0 => Operation::FillL,
+        1 => Operation::FillXY,
+        2 => Operation::PixbltLL,
+        3 => Operation::PixbltLXY,
+        4 => Operation::PixbltXYL,
+        5 => Operation::PixbltXYXY,
+        6 => Operation::PixbltBL,
+        _ => Operation::PixbltBXY,
+    }
 }
 
 fn to_xy(op: Operation) -> bool

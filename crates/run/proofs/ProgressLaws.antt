@@ -20,7 +20,8 @@ use Rattle.listing.proofs.ListingLaws.{put-put, length-put}
 use Rattle.run.specs.declared.Progress.{Progress}
 use Rattle.run.specs.declared.Ran.{Ran}
 use Rattle.settings.specs.Settings.{settingsOf}
-use Rattle.run.specs.Run.{operationOf, seedOf, whole, ranOver, lineOf, imageFor, memoryFor, pointLine}
+use Rattle.drawing.specs.Operation.{operationOf}
+use Rattle.run.specs.Run.{seedOf, whole, ranOver, lineOf, imageFor, memoryFor, pointLine}
 use Rattle.run.specs.Lines.{pointLines, longest, afterLast}
 use Rattle.run.specs.Progress.{Holds, progressed}
 use Rattle.run.proofs.LinesLaws.{length-pointLine, length-pointLines, pointLines-next}

@@ -8,19 +8,12 @@ use Rattle.image.specs.Image.{image}
 use Rattle.settings.specs.declared.Settings.{Settings}
 use Rattle.settings.specs.Settings.{settingsOf}
 use Rattle.drawing.specs.declared.Operation.{Operation}
-use Rattle.drawing.specs.declared.Operation.the-variants.{FillL, FillXY, PixbltLL, PixbltLXY, PixbltXYL, PixbltXYXY, PixbltBL, PixbltBXY}
+use Rattle.drawing.specs.Operation.{operationOf}
 use Rattle.drawing.specs.Draw.{outcome, drawn}
 use Rattle.points.specs.Axes.{Axis}
 use Rattle.points.specs.Points.{experiment}
 use Rattle.listing.specs.Listing.{numbersLine}
 use Rattle.run.specs.declared.Ran.{Ran}
-
--- the eight drawings, numbered from 0 in the scope's order; any other number is the last one's
-abbrev pub operations : List Operation
-operations = FillL ∷ FillXY ∷ PixbltLL ∷ PixbltLXY ∷ PixbltXYL ∷ PixbltXYXY ∷ PixbltBL ∷ PixbltBXY ∷ []
-
-abbrev pub operationOf : ℕ → Operation
-operationOf draw = getD operations draw PixbltBXY
 
 -- An experiment is fourteen values. The first thirteen are its settings (`settingsOf`), which their limits let through whole;
 -- SEED is the last one.

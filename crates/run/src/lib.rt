@@ -10,7 +10,7 @@ ghost use Rattle.drawing.specs.Draw.{drawn};
 ghost use Rattle.points.specs.Points.{experiment};
 ghost use Rattle.points.specs.Table.{axesIn, pointsIn};
 ghost use Rattle.listing.specs.Listing.{put};
-ghost use Rattle.run.specs.Run.{operationOf, seedOf, whole, ranOver, bit, lineOf, imageFor, memoryFor, pointLine};
+ghost use Rattle.run.specs.Run.{seedOf, whole, ranOver, bit, lineOf, imageFor, memoryFor, pointLine};
 ghost use Rattle.run.specs.Lines.{pointLines, longest, afterLast, badShape, endsPast, linesOf, written, imageAfter, memoryAfter};
 ghost use Rattle.run.specs.Progress.{Holds, progressed};
 use drawing::Operation;
@@ -28,22 +28,6 @@ pub struct Ran {
     pub visited: u64,
     pub v: bool,
     pub changed: u64,
-}
-
-// The drawing of a number.
-fn operation_of(draw: u64) -> Operation
-    ensures { λ r. ⌜ r ≡ operationOf draw ⌝ }
-{
-    match draw {
-        0 => Operation::FillL,
-        1 => Operation::FillXY,
-        2 => Operation::PixbltLL,
-        3 => Operation::PixbltLXY,
-        4 => Operation::PixbltXYL,
-        5 => Operation::PixbltXYXY,
-        6 => Operation::PixbltBL,
-        _ => Operation::PixbltBXY,
-    }
 }
 
 // Copies a memory over another of its size.
@@ -169,7 +153,7 @@ fn run_point(
 {
     let e = experiment_of(table, axes, point);
     prepare(image, e.seed, p.made, p.seed);
-    let op = operation_of(draw);
+    let op = drawing::operation_of(draw);
     let ran = run_over(image, memory, op, e.settings);
     let at = put_line(out, p.at, point, ran);
     Progress {
