@@ -1,12 +1,14 @@
 // PIXT and DRAV for C, on numbers and lent arrays.
 ghost use mathlib.Core.Path.{_≡_};
-ghost use mathlib.Core.Bool.{cond};
+ghost use mathlib.Core.Bool.{cond, _||_};
+ghost use lib.Dec.{ltb};
 ghost use lib.ListN.{length};
 ghost use lib.Seq.{sets};
 ghost use Rattle.pixt.specs.Lone.{placeOf, linearPixel, xySource, xyDestination};
 ghost use Rattle.pixt.specs.Pixt.{drawnAt, lowBits, pixtTo, pixtFrom};
 ghost use Rattle.pixt.specs.Drav.{colorAt, dravOf};
 ghost use Rattle.c_arrays.specs.Out.{isSet, answered, stored};
+ghost use Rattle.c_arrays.specs.Settings.{badSettings};
 ghost use Rattle.settings.specs.Settings.{settingsOf};
 ghost use Rattle.c_pixt.specs.Pixt.{badPixel, results, pixtResults, dravResults};
 
@@ -26,7 +28,7 @@ pub fn pixt_to_linear(
         × (now (out .exit) ≡ stored bad o (pixtResults call))
         × (now (memory .exit) ≡ cond bad m (drawnAt s at (lowBits s value) m)) ⌝ }
 {
-    if (out.len() < 4) | c_arrays::bad_settings(settings) {
+    if bad_pixel(settings, out.len()) {
         return 9;
     }
     let s = c_arrays::settings_of(settings);
@@ -51,7 +53,7 @@ pub fn pixt_to_xy(
         × (now (out .exit) ≡ stored bad o (pixtResults call))
         × (now (memory .exit) ≡ cond bad m (drawnAt s at (lowBits s value) m)) ⌝ }
 {
-    if (out.len() < 4) | c_arrays::bad_settings(settings) {
+    if bad_pixel(settings, out.len()) {
         return 9;
     }
     let s = c_arrays::settings_of(settings);
@@ -75,7 +77,7 @@ pub fn pixt_from_linear(
         × (now (out .exit) ≡ stored bad o (pixtResults call))
         × (now (memory .exit) ≡ m) ⌝ }
 {
-    if (out.len() < 4) | c_arrays::bad_settings(settings) {
+    if bad_pixel(settings, out.len()) {
         return 9;
     }
     let s = c_arrays::settings_of(settings);
@@ -93,7 +95,7 @@ pub fn pixt_from_xy(memory: &mut [u16], settings: &[u32], xy: u32, v: u32, out: 
         × (now (out .exit) ≡ stored bad o (pixtResults call))
         × (now (memory .exit) ≡ m) ⌝ }
 {
-    if (out.len() < 4) | c_arrays::bad_settings(settings) {
+    if bad_pixel(settings, out.len()) {
         return 9;
     }
     let s = c_arrays::settings_of(settings);
@@ -118,13 +120,20 @@ pub fn drav(
         × (now (out .exit) ≡ stored bad o (dravResults call))
         × (now (memory .exit) ≡ cond bad m (drawnAt s at (colorAt s (placeOf s point)) m)) ⌝ }
 {
-    if (out.len() < 4) | c_arrays::bad_settings(settings) {
+    if bad_pixel(settings, out.len()) {
         return 9;
     }
     let s = c_arrays::settings_of(settings);
     let r = pixt::drav(memory, s, step, point, v != 0);
     hand_out(out, r.visited, r.v, r.request, r.point);
     r.answer
+}
+
+// Are the settings bad, or is there no room for the four results?
+fn bad_pixel(settings: &[u32], room: usize) -> bool
+    ensures { λ r. ⌜ r ≡ ltb room 4 || badSettings (now (settings .entry)) ⌝ }
+{
+    (room < 4) | c_arrays::bad_settings(settings)
 }
 
 // Stores the four results of a lone pixel at the array's start.

@@ -4,46 +4,25 @@ use borrow.Author.Needs.{needs}
 use Rattle.c_pixt.proofs.pixt_from_linear.Statement.{statement}
 use Rattle.c_pixt.proofs.pixt_from_linear.Tie as tie
 
-bad-settings-requires : tie.Need-bad-settings-requires
-bad-settings-requires c κs = search needs
-
 returns : tie.Need-returns
-returns c = let e = rw (c .before .bad-settings .ensures) at (c .if1 .taken) in (rw e, rw e, refl)
-
-settings-of-requires : tie.Need-settings-of-requires
-settings-of-requires c κs = search needs
-
-pixt-from-linear-requires : tie.Need-pixt-from-linear-requires
-pixt-from-linear-requires c κs = search needs
-
-hand-out-requires : tie.Need-hand-out-requires
-hand-out-requires c κs = search needs
-
-same-length : tie.Need-same-length
-same-length c = search needs
-
-same-length-2 : tie.Need-same-length-2
-same-length-2 c = search needs
+returns c = rw (← c .before .bad-pixel .ensures, c .if1 .taken) (refl, refl, refl)
 
 returns-2 : tie.Need-returns-2
 returns-2 c =
-    let h = c .before .before in
-    let p = h .before .before .before .before in
-    let s = p .before .before .settings-of .ensures in
+    let p = c .before .before .before .before .before .before in
     let i = p .before .before .before in
-    let g = rw (i .before .bad-settings .ensures) at (i .if1 .left) in
-    let e = p .pixt-from-linear .ensures in
-    (rw (e .0, s, g), rw (h .hand-out .ensures, e .0, s, g), e .1)
+    let e = rw (p .before .before .settings-of .ensures) at (p .pixt-from-linear .ensures) in
+    rw (c .before .before .hand-out .ensures, e .0, e .1, ← i .before .bad-pixel .ensures, i .if1 .left) (search needs)
 
 pub pixt-from-linear-spec : {M : Type 1} → statement M
 pixt-from-linear-spec =
     tie.close
     (tie.spec
-    bad-settings-requires
+    (λ c κs. search needs)
     returns
-    settings-of-requires
-    pixt-from-linear-requires
-    hand-out-requires
-    same-length
-    same-length-2
+    (λ c κs. search needs)
+    (λ c κs. search needs)
+    (λ c κs. search needs)
+    (λ c. search needs)
+    (λ c. search needs)
     returns-2)
