@@ -1,6 +1,6 @@
 -- Laws of a run of stores (`sets`), and the loop that makes one. No contract cites this file. Assumes nothing.
 use mathlib.Core.Path.{_≡_, refl, sym, _∙_}
-use mathlib.Core.Bool.{Bool, true, false, _&&_}
+use mathlib.Core.Bool.{Bool, true, false, _&&_, and-eq-true-iff}
 use mathlib.Core.List.{List, [], _∷_}
 use Prim.Native.Nat.{ℕ, suc, _+_, _≤_, _<_}
 use native.Mathlib.Numerals.{add-one}
@@ -9,7 +9,6 @@ use borrow.Author.Tests.{ltb-true, ltb-false}
 use lib.Dec.{ltb}
 use lib.ListN.{length, getD, set, drop, length-set, drop-of-length-le}
 use lib.Seq.{sets, drop-cons, set-out}
-use Rattle.memory.proofs.Tests.{and-true-left, and-true-right}
 
 -- stores past the end change nothing
 sets-out : (vs l : List ℕ) (i : ℕ) → length l ≤ i → sets l i vs ≡ l
@@ -26,7 +25,7 @@ start out numbers = record { size = refl; rest = refl }
 
 -- both arrays reach past i
 pub inside : {i n k : ℕ} → (ltb i n && ltb i k) ≡ true → (i < n) × (i < k)
-inside {i} {n} {k} e = (ltb-true _ _ (and-true-left (ltb i n) (ltb i k) e), ltb-true _ _ (and-true-right (ltb i n) (ltb i k) e))
+inside {i} {n} {k} e = (ltb-true _ _ (and-eq-true-iff (ltb i n) (ltb i k) .0 e .0), ltb-true _ _ (and-eq-true-iff (ltb i n) (ltb i k) .0 e .1))
 
 pub turn : (out numbers l : List ℕ) (i : ℕ) → i < length numbers → Stored out numbers l i → Stored out numbers (set l i (getD numbers i 0)) (i + 1)
 turn out numbers l i h s = record { size = length-set l i (getD numbers i 0) ∙ s .size; rest = rw add-one (rw (drop-cons numbers i 0 h) at (s .rest)) }

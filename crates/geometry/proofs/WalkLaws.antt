@@ -10,7 +10,7 @@ use lib.Dec.{eqb, leb, ltb}
 use lib.Pow.{pow-pos}
 use borrow.Author.Tests.{lt-leb, le-ltb, leb-false, ltb-false}
 use Rattle.memory.specs.Bits.{noMemory}
-use Rattle.memory.proofs.Tests.{or-false-left, or-false-right}
+use Rattle.memory.proofs.Tests.{or-false-left, or-false-right, cond-same}
 use Rattle.geometry.specs.Walk.{addressOf, reaches, leavesMemory}
 use Rattle.geometry.proofs.Arithmetic.{mod-pow-mod, mod-pow-room, multiple-sum, product-zero}
 
@@ -167,9 +167,6 @@ module _ (limit start cols rows pitch step : ℕ) where
             deep = ltb start ((rows - 1) * q)
 
 -- ---- a walk that leaves memory
-cond-same : (t : Bool) → cond t false false ≡ false
-cond-same true = refl
-cond-same false = refl
 
 module _ (words start cols rows pitch step : ℕ) where
   pub leavesMemory-of-noMemory : noMemory words ≡ true → leavesMemory words start cols rows pitch step ≡ false
@@ -184,7 +181,7 @@ module _ (words start cols rows pitch step : ℕ) where
   -- a walk of no pixels does not
   pub leavesMemory-of-none : (eqb cols 0 || eqb rows 0) ≡ true → leavesMemory words start cols rows pitch step ≡ false
   unfolding leavesMemory reaches
-  leavesMemory-of-none e = rw (product-zero cols rows e) (cond-same (noMemory words))
+  leavesMemory-of-none e = rw (product-zero cols rows e) (cond-same (noMemory words) false)
 
   -- one that does not has all its pixels in memory, and the other way round
   pub lt-of-leavesMemory : noMemory words ≡ false → leavesMemory words start cols rows pitch step ≡ false
@@ -194,4 +191,4 @@ module _ (words start cols rows pitch step : ℕ) where
   pub leavesMemory-of-lt : ((i : ℕ) → i < cols * rows → addressOf start cols pitch step i < 16 * words)
       → leavesMemory words start cols rows pitch step ≡ false
   unfolding leavesMemory
-  leavesMemory-of-lt h = rw (reaches-of-lt _ (16 * words) (cols * rows) h) (cond-same (noMemory words))
+  leavesMemory-of-lt h = rw (reaches-of-lt _ (16 * words) (cols * rows) h) (cond-same (noMemory words) false)

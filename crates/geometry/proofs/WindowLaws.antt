@@ -1,12 +1,11 @@
 -- Windows: what W means, case by case; what is kept; the common rectangle is the intersection. No contract cites this file. Assumes nothing.
 use mathlib.Core.Path.{_≡_, refl, ap}
-use mathlib.Core.Bool.{Bool, true, false, cond, not}
+use mathlib.Core.Bool.{Bool, true, false, cond, not, and-eq-true-iff}
 use mathlib.Core.Logic.{_⊎_, inl, inr, ⊎-elim}
 use Prim.Native.Nat.{ℕ, suc, _+_, _-_, _≤_, _<_, max}
 use native.Mathlib.Omega.{arith}
 use borrow.Author.Tests.{eq-eqb, ne-eqb, eqb-true, leb-true, le-leb, not-true}
 use lib.Dec.{eqb, leb}
-use Rattle.memory.proofs.Tests.{and-true-left, and-true-right}
 use Rattle.geometry.proofs.Arithmetic.{positive-left, positive-right}
 use Rattle.geometry.specs.declared.Rectangle.{Rectangle}
 use Rattle.geometry.specs.declared.Window.{Window}
@@ -53,8 +52,8 @@ module _ (c n lo hi : ℕ) where
 
   pub allIn-true : allIn c n lo hi ≡ true → (lo ≤ c) × (c + n ≤ suc hi)
   allIn-true e = (
-    leb-true lo c (and-true-left (leb lo c) (leb (c + n) (suc hi)) e),
-    leb-true (c + n) (suc hi) (and-true-right (leb lo c) (leb (c + n) (suc hi)) e),
+    leb-true lo c (and-eq-true-iff (leb lo c) (leb (c + n) (suc hi)) .0 e .0),
+    leb-true (c + n) (suc hi) (and-eq-true-iff (leb lo c) (leb (c + n) (suc hi)) .0 e .1),
   )
 
 -- ---- what is drawn, under any W
@@ -148,8 +147,8 @@ module _ (r : Rectangle) (win : Window) where
   pub seen-of-inside : inside r win ≡ true → (a b : ℕ) → Pixel r a b → Seen win a b
   unfolding across down
   seen-of-inside i a b p =
-      let x : (win .left ≤ r .x) × (r .x + r .cols ≤ suc (win .right)) = allIn-true (r .x) (r .cols) (win .left) (win .right) (and-true-left across down i) in
-      let y : (win .top ≤ r .y) × (r .y + r .rows ≤ suc (win .bottom)) = allIn-true (r .y) (r .rows) (win .top) (win .bottom) (and-true-right across down i) in
+      let x : (win .left ≤ r .x) × (r .x + r .cols ≤ suc (win .right)) = allIn-true (r .x) (r .cols) (win .left) (win .right) (and-eq-true-iff across down .0 i .0) in
+      let y : (win .top ≤ r .y) × (r .y + r .rows ≤ suc (win .bottom)) = allIn-true (r .y) (r .rows) (win .top) (win .bottom) (and-eq-true-iff across down .0 i .1) in
       omega arith
 
   pub inside-of-seen : empty r ≡ false → ((a b : ℕ) → Pixel r a b → Seen win a b) → inside r win ≡ true

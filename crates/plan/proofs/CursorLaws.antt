@@ -1,6 +1,6 @@
 -- Laws of `specs/Cursor.antt`. No contract cites this file. Assumes nothing.
 use mathlib.Core.Path.{_≡_, refl, ap, _∙_}
-use mathlib.Core.Bool.{Bool, true, false, cond}
+use mathlib.Core.Bool.{Bool, true, false, cond, and-eq-true-iff}
 use mathlib.Core.List.{List, [], _∷_}
 use Prim.Native.Nat.{ℕ, _+_, _<_, _≤_}
 use native.Mathlib.Nat.{add-zero}
@@ -15,7 +15,6 @@ use Rattle.text.proofs.TextLaws.{part-end-le, parts-before, parts-last}
 use Rattle.plan.specs.declared.Cursor.{Cursor}
 use Rattle.plan.specs.Reading.{Line, skipped, kept}
 use Rattle.plan.specs.Cursor.{lineAt, linesFrom, skippedAt, Place, Reached, Next}
-use Rattle.lists.proofs.TestLaws.{and-eq-true}
 use Rattle.plan.proofs.ReadingLaws.{parts-some, kept-some, kept-skip, kept-keep, kept-last}
 
 -- The test of a line
@@ -54,7 +53,7 @@ lines-some text at number = kept-some number _ (parts-some 10 (drop at text))
 module _ (text : List ℕ) (at end number : ℕ) (is : end ≡ at + length (lineAt text at)) where
   pub lines-skip : skippedAt text at end ≡ true → linesFrom text at number ≡ linesFrom text (end + 1) (number + 1)
   lines-skip e =
-      let (l, s) = and-eq-true _ _ e in
+      let (l, s) = and-eq-true-iff _ _ .0 e in
       ap (kept number) (parts-before 10 text at end is (ltb-true _ _ l))
       ∙ kept-skip number _ _ (parts-some 10 _) s
       ∙ rw (add-one end, add-one number)
@@ -83,7 +82,7 @@ module _ {text : List ℕ} {from number : ℕ} where
     pub reached-next : {end′ : ℕ} → skippedAt text at end ≡ true → end′ ≡ end + 1 + length (lineAt text (end + 1))
         → (end < length text) × Reached text from number (record { at = end + 1; end = end′; line = line + 1 })
     reached-next s e =
-        let h : end < length text = ltb-true _ _ (and-eq-true _ _ s .0) in (
+        let h : end < length text = ltb-true _ _ (and-eq-true-iff _ _ .0 s .0) in (
           h,
           record {
             place = record { within = omega arith; numbered = omega (arith, r .place .numbered, r .ends) };

@@ -1,6 +1,6 @@
 -- Laws of a call's answer and of its lent list (`specs/Table.antt`), one for each way out. No contract cites this file. Assumes nothing.
 use mathlib.Core.Path.{_≡_, refl, _∙_}
-use mathlib.Core.Bool.{Bool, true, false, cond, _&&_}
+use mathlib.Core.Bool.{Bool, true, false, cond, _&&_, and-eq-true-iff}
 use mathlib.Core.List.{List, [], _∷_, _++_}
 use Prim.Native.Nat.{ℕ, zero, suc, _<_, _≤_}
 use native.Mathlib.Omega.{arith}
@@ -14,7 +14,6 @@ use Rattle.points.specs.Axes.{Axis, defaults, count}
 use Rattle.points.specs.Points.{indices, assigned, experiment, refusal}
 use Rattle.points.specs.Table.{axesIn, laterIn, holds, pointsIn, refusalIn, answerFor, outAfter, withDefaults}
 use Rattle.points.specs.OneToOne.{unknown}
-use Rattle.lists.proofs.TestLaws.{and-eq-true}
 use Rattle.points.proofs.StepLaws.{held}
 
 -- a number below the count of points
@@ -28,7 +27,7 @@ below k n t h = go (leb k 8 && holds k t) refl h
   where
     go : (b : Bool) → (leb k 8 && holds k t) ≡ b → n < cond b (count (axesIn k t)) 0 → Below k n t
     go true e h =
-        let p = and-eq-true (leb k 8) (holds k t) e in
+        let p = and-eq-true-iff (leb k 8) (holds k t) .0 e in
         record { few = leb-true k 8 (p .0); held = p .1; counted = h }
     go false e h = absurd (omega arith)
 
@@ -55,7 +54,7 @@ unknown-axesIn : (k : ℕ) (t : List ℕ) → holds k t ≡ true → any unknown
 unfolding any holds axesIn
 unknown-axesIn zero t e = refl
 unknown-axesIn (suc k) t e =
-    let p = and-eq-true _ _ e in
+    let p = and-eq-true-iff _ _ .0 e in
     rw (lt-leb 14 (getD t 0 0) (held t (p .0) .named)) (unknown-axesIn k (laterIn t) (p .1))
 
 module _ (k n : ℕ) (t out : List ℕ) where

@@ -1,7 +1,7 @@
 -- Laws of `specs/Table.antt` as the code goes through a table: the test of an axis, then the later axes. No contract cites this file.
 -- Assumes nothing.
 use mathlib.Core.Path.{_≡_, refl, sym, _∙_}
-use mathlib.Core.Bool.{Bool, true, false, true≢false, cond, not, _&&_, and-false}
+use mathlib.Core.Bool.{Bool, true, false, true≢false, cond, not, _&&_, and-false, and-eq-true-iff}
 use mathlib.Core.List.{List}
 use Prim.Native.Nat.{ℕ, zero, suc, _+_, _-_, _*_, _/_, _%_, _^_, _<_, _≤_}
 use native.Mathlib.Nat.{mul-le-mul, mul-zero, mul-pos, mod-lt, div-lt-iff-lt-mul, pow-succ', pow-le-pow-right}
@@ -10,7 +10,6 @@ use borrow.Author.Tests.{not-true, not-false, ltb-true, leb-true, lt-leb}
 use lib.Dec.{ltb, leb, leb·suc-suc}
 use lib.ListN.{length, getD, set, take, drop, length-drop}
 use lib.Seq.{take-all, length-take-le, getD-take, getD-drop}
-use Rattle.lists.proofs.TestLaws.{and-eq-true}
 use Rattle.points.specs.Axes.{count}
 use Rattle.points.specs.Points.{indices, assigned}
 use Rattle.points.specs.Table.{axisIn, axesIn, laterIn, holdsAxis, holds, countIn}
@@ -31,9 +30,9 @@ pub record Held (t : List ℕ) : Type 0 where
 pub held : (t : List ℕ) → holdsAxis t ≡ true → Held t
 unfolding holdsAxis
 held t e =
-    let p = and-eq-true _ _ e in
-    let q = and-eq-true _ _ (p .0) in
-    let r = and-eq-true _ _ (q .0) in
+    let p = and-eq-true-iff _ _ .0 e in
+    let q = and-eq-true-iff _ _ .0 (p .0) in
+    let r = and-eq-true-iff _ _ .0 (q .0) in
     record {
       named = ltb-true _ _ (r .0);
       some = leb-true _ _ (r .1);
@@ -103,7 +102,7 @@ pub count-pos : (k : ℕ) (t : List ℕ) → holds k t ≡ true → 0 < count (a
 unfolding holds axesIn count
 count-pos zero t e = omega arith
 count-pos (suc k) t e =
-    let p = and-eq-true _ _ e in
+    let p = and-eq-true-iff _ _ .0 e in
     mul-pos (rw (length-values t (held t (p .0))) (held t (p .0) .some)) (count-pos k (laterIn t) (p .1))
 
 -- what is known of point n of a table that has an axis and then j more
@@ -119,7 +118,7 @@ pub decoding : (k n : ℕ) (t : List ℕ) → (k ≡ 0 → ⊥) → holds k t �
 unfolding holds axesIn count
 decoding zero n t z e h = absurd (z refl)
 decoding (suc k) n t z e h =
-    let p = and-eq-true _ _ e in
+    let p = and-eq-true-iff _ _ .0 e in
     let a = held t (p .0) in
     let q = count-pos k (laterIn t) (p .1) in
     rw (suc-pred k) (record {

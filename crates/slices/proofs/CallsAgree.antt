@@ -1,6 +1,6 @@
 -- The calls of `drawings` are the public calls. No contract cites this file. Assumes nothing.
 use mathlib.Core.Path.{_≡_, refl, sym, ap, _∙_}
-use mathlib.Core.Bool.{Bool, true, false, cond, _&&_, false≢true}
+use mathlib.Core.Bool.{Bool, true, false, cond, _&&_, false≢true, and-eq-true-iff}
 use mathlib.Core.List.{List}
 use Prim.Native.Nat.{ℕ, zero, suc, _+_, _-_, _*_, min}
 use native.Mathlib.Nat.{zero-mul}
@@ -8,7 +8,6 @@ use native.Mathlib.Omega.{arith}
 use borrow.Author.Tests.{eqb-true, eqb-false}
 use lib.Dec.{eqb}
 use lib.ListN.{length}
-use Rattle.memory.proofs.Tests.{and-true-left, and-true-right}
 use Rattle.pixel.specs.Control.{windowing}
 use Rattle.geometry.specs.Window.{windowOf, clipped, whole, nothing, empty, meet}
 use Rattle.geometry.specs.declared.Rectangle.{Rectangle}
@@ -37,8 +36,8 @@ clipped-one r win = go (empty r)
 -- where W=1 and the rectangles meet there are no pixels
 none : (t : Bool) (w : ℕ) (r : Rectangle) (win : Window)
     → (eqb w 1 && cond t (clipped w r win false) (whole r false) .request) ≡ true → cond t (clipped w r win false) (whole r false) .cols ≡ 0
-none true w r win e = ap (λ (x : ℕ). clipped x r win false .cols) (eqb-true w 1 (and-true-left (eqb w 1) _ e)) ∙ clipped-one r win
-none false w r win e = absurd (false≢true (and-true-right (eqb w 1) false e))
+none true w r win e = ap (λ (x : ℕ). clipped x r win false .cols) (eqb-true w 1 (and-eq-true-iff (eqb w 1) _ .0 e .0)) ∙ clipped-one r win
+none false w r win e = absurd (false≢true (and-eq-true-iff (eqb w 1) false .0 e .1))
 
 pub pixels-of-found : (op : Operation) (s : Settings) → found s (part op s) ≡ true → pixels (drawingFor op s) ≡ 0
 unfolding drawingOf part

@@ -4,7 +4,7 @@ use Prim.Native.Nat.{_+_}
 use lib.Dec.{ltb}
 use Rattle.timing.specs.Cycles.{caseOf}
 use Rattle.timing.specs.declared.Case.the-variants.{G}
-use Rattle.timing.proofs.CaseLaws.{cond-same}
+use Rattle.memory.proofs.Tests.{cond-same}
 use borrow.Author.Needs.{needs}
 use Rattle.timing.proofs.case_of.Statement.{statement}
 use Rattle.timing.proofs.case_of.Tie as tie
