@@ -1,7 +1,7 @@
 -- A lone pixel drawn from a register: where the call is not refused the pixel lies in one word, so that the register's bits, shifted to
 -- the pixel's place, are found there again. No contract cites this file. Assumes nothing.
 use mathlib.Core.Path.{_≡_, refl, sym, ap, subst, _∙_}
-use mathlib.Core.Bool.{Bool, true, false, cond, _&&_}
+use mathlib.Core.Bool.{Bool, true, false, cond, _&&_, and-eq-true-iff}
 use mathlib.Core.List.{List}
 use Prim.Native.Nat.{ℕ, suc, _+_, _-_, _*_, _/_, _%_, _^_, _≤_}
 use native.Mathlib.Omega.{arith}
@@ -10,7 +10,7 @@ use lib.Bits.{bitAnd, and-mask}
 use lib.Dec.{eqb}
 use lib.Pow.{field, shl-shr, mod-mod-pow}
 use Rattle.memory.specs.Bits.{noMemory}
-use Rattle.memory.proofs.Tests.{or-false-right, and-true-left, and-true-right}
+use Rattle.memory.proofs.Tests.{or-false-right}
 use Rattle.pixel.specs.Control.{transparency, processing, badControl}
 use Rattle.pixel.specs.Pixel.{badPixelSize, topOf, pixelOf, plotted}
 use Rattle.pixel.proofs.SizeLaws.{size-le, aligned-fits, topOf-ones}
@@ -58,13 +58,13 @@ module _ (words : ℕ) (s : Settings) where
 
   pub linearPixel-aligned : (a : ℕ) (v : Bool) → Aligned s (linearPixel words s a v)
   unfolding linearPixel
-  linearPixel-aligned a v e = passes _ _ true _ a (eqb-true _ 0 (and-true-left _ true e)) refl
+  linearPixel-aligned a v e = passes _ _ true _ a (eqb-true _ 0 (and-eq-true-iff _ true .0 e .0)) refl
 
   pub xyDestination-aligned : (xy : ℕ) (v : Bool) → Aligned s (xyDestination words s xy v)
   unfolding xyDestination
   xyDestination-aligned xy v e =
       let l : Lone = xyDestination words s xy v in
-      let p = passes _ _ (l .some) (badStart s xy) (placeOf s xy) (eqb-true _ 0 (and-true-left _ (l .some) e)) (and-true-right (eqb (l .answer) 0) _ e) in
+      let p = passes _ _ (l .some) (badStart s xy) (placeOf s xy) (eqb-true _ 0 (and-eq-true-iff _ (l .some) .0 e .0)) (and-eq-true-iff (eqb (l .answer) 0) _ .0 e .1) in
       (p .0, or-false-right (negative (yOf xy)) _ (or-false-right (negative (xOf xy)) _ (p .1)))
 
 -- ---- what is drawn from the shifted bits is what is drawn from the register
