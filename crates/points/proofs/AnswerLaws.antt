@@ -4,7 +4,7 @@ use mathlib.Core.Bool.{Bool, true, false, cond, _&&_, and-eq-true-iff}
 use mathlib.Core.List.{List, [], _∷_, _++_}
 use Prim.Native.Nat.{ℕ, zero, suc, _<_, _≤_}
 use native.Mathlib.Omega.{arith}
-use borrow.Author.Tests.{leb-true, leb-false, lt-ltb, le-ltb, lt-leb}
+use borrow.Author.Tests.{leb-false, lt-ltb, le-ltb, lt-leb}
 use lib.Dec.{ltb, leb}
 use lib.ListN.{length, getD, set, drop, length-set}
 use lib.Seq.{set-append-left}
@@ -16,19 +16,16 @@ use Rattle.points.specs.Table.{axesIn, laterIn, holds, pointsIn, refusal
 use Rattle.points.specs.OneToOne.{unknown}
 use Rattle.points.proofs.StepLaws.{held}
 
--- a number below the count of points
-pub record Below (k n : ℕ) (t : List ℕ) : Type 0 where
-  pub few : k ≤ 8
+-- what is known of a table that has a point
+pub record Holding (k : ℕ) (t : List ℕ) : Type 0 where
   pub held : holds k t ≡ true
-  pub counted : n < count (axesIn k t)
+  pub counted : pointsIn k t ≡ count (axesIn k t)
 
-pub below : (k n : ℕ) (t : List ℕ) → n < pointsIn k t → Below k n t
-below k n t h = go (leb k 8 && holds k t) refl h
+pub holding : (k n : ℕ) (t : List ℕ) → n < pointsIn k t → Holding k t
+holding k n t h = go (leb k 8 && holds k t) refl h
   where
-    go : (b : Bool) → (leb k 8 && holds k t) ≡ b → n < cond b (count (axesIn k t)) 0 → Below k n t
-    go true e h =
-        let p = and-eq-true-iff (leb k 8) (holds k t) .0 e in
-        record { few = leb-true k 8 (p .0); held = p .1; counted = h }
+    go : (b : Bool) → (leb k 8 && holds k t) ≡ b → n < cond b (count (axesIn k t)) 0 → Holding k t
+    go true e h = record { held = and-eq-true-iff (leb k 8) (holds k t) .0 e .1; counted = rw e }
     go false e h = absurd (omega arith)
 
 -- the test of 24 is that of the count of points
@@ -69,4 +66,4 @@ module _ (k n : ℕ) (t out : List ℕ) where
   unfolding experiment
   answer-done l h =
       rw (le-ltb (length out) 14 l, refusalIn-test k n t, lt-ltb n (pointsIn k t) h)
-      (refl, assigned-append (axesIn k t) (indices (axesIn k t) n) defaults (drop 14 out) (unknown-axesIn k t (below k n t h .held)) refl)
+      (refl, assigned-append (axesIn k t) (indices (axesIn k t) n) defaults (drop 14 out) (unknown-axesIn k t (holding k n t h .held)) refl)

@@ -1,10 +1,10 @@
 -- Laws of `specs/Table.antt` as the code goes through a table: the test of an axis, then the later axes. No contract cites this file.
 -- Assumes nothing.
-use mathlib.Core.Path.{_≡_, refl, sym, _∙_}
+use mathlib.Core.Path.{_≡_, refl, sym, ap, _∙_}
 use mathlib.Core.Bool.{Bool, true, false, true≢false, cond, not, _&&_, and-false, and-eq-true-iff}
 use mathlib.Core.List.{List}
 use Prim.Native.Nat.{ℕ, zero, suc, _+_, _-_, _*_, _/_, _%_, _^_, _<_, _≤_}
-use native.Mathlib.Nat.{mul-le-mul, mul-zero, mul-pos, mod-lt, div-lt-iff-lt-mul, pow-succ', pow-le-pow-right}
+use native.Mathlib.Nat.{mul-le-mul, mul-zero, mul-pos, mod-lt, mul-div-right, div-lt-iff-lt-mul, pow-succ', pow-le-pow-right}
 use native.Mathlib.Omega.{arith}
 use borrow.Author.Tests.{not-true, not-false, ltb-true, leb-true, lt-leb}
 use lib.Dec.{ltb, leb, leb·suc-suc}
@@ -105,46 +105,52 @@ count-pos (suc k) t e =
     let p = and-eq-true-iff _ _ .0 e in
     mul-pos (rw (length-values t (held t (p .0))) (held t (p .0) .some)) (count-pos k (laterIn t) (p .1))
 
--- what is known of point n of a table that has an axis and then j more
-pub record Decoding (j n : ℕ) (t : List ℕ) : Type 0 where
+-- a division by the first axis's length leaves the count of the later axes
+count-later : (k : ℕ) (t : List ℕ) → Held t → count (axesIn (suc k) t) / getD t 1 0 ≡ count (axesIn k (laterIn t))
+unfolding axesIn count
+count-later k t h = rw (length-values t h) (mul-div-right (count (axesIn k (laterIn t))) (h .some))
+
+-- what is known of point n, of `total` points, of a table that has an axis and then j more
+pub record Decoding (j total n : ℕ) (t : List ℕ) : Type 0 where
   pub axis : Held t
   pub later : holds j (laterIn t) ≡ true
-  pub counted : countIn j (laterIn t) ≡ count (axesIn j (laterIn t))
-  pub positive : 0 < count (axesIn j (laterIn t))
-  pub index : n / count (axesIn j (laterIn t)) < getD t 1 0
-  pub rest : n % count (axesIn j (laterIn t)) < count (axesIn j (laterIn t))
+  pub counted : total / getD t 1 0 ≡ count (axesIn j (laterIn t))
+  pub positive : 0 < total / getD t 1 0
+  pub index : n / (total / getD t 1 0) < getD t 1 0
+  pub rest : n % (total / getD t 1 0) < total / getD t 1 0
 
-pub decoding : (k n : ℕ) (t : List ℕ) → (k ≡ 0 → ⊥) → holds k t ≡ true → n < count (axesIn k t) → Decoding (k - 1) n t
+pub decoding : (k total n : ℕ) (t : List ℕ) → (k ≡ 0 → ⊥) → holds k t ≡ true → total ≡ count (axesIn k t) → n < total → Decoding (k - 1) total n t
 unfolding holds axesIn count
-decoding zero n t z e h = absurd (z refl)
-decoding (suc k) n t z e h =
+decoding zero total n t z e c h = absurd (z refl)
+decoding (suc k) total n t z e c h =
     let p = and-eq-true-iff _ _ .0 e in
     let a = held t (p .0) in
+    let l = ap (λ (m : ℕ). m / getD t 1 0) c ∙ count-later k t a in
     let q = count-pos k (laterIn t) (p .1) in
     rw (suc-pred k) (record {
       axis = a;
       later = p .1;
-      counted = rw (p .1);
-      positive = q;
-      index = div-lt-iff-lt-mul q .1 (rw (length-values t a) at h);
-      rest = mod-lt n q;
+      counted = l;
+      positive = rw l q;
+      index = rw l (div-lt-iff-lt-mul q .1 (rw (c, length-values t a) at h));
+      rest = rw l (mod-lt n q);
     })
 
 pub assigned-none : (k n : ℕ) (t vs : List ℕ) → k ≡ 0 → vs ≡ assigned (axesIn k t) (indices (axesIn k t) n) vs
 unfolding axesIn indices assigned
 assigned-none k n t vs e = rw e
 
-value-at : (j n : ℕ) (t : List ℕ) → Decoding j n t
-    → let q = n / count (axesIn j (laterIn t)) in getD t (2 + q) 0 ≡ getD (axisIn t .values) q 0
-value-at j n t d =
-    let q = n / count (axesIn j (laterIn t)) in
+value-at : (j total n : ℕ) (t : List ℕ) → Decoding j total n t
+    → let q = n / (total / getD t 1 0) in getD t (2 + q) 0 ≡ getD (axisIn t .values) q 0
+value-at j total n t d =
+    let q = n / (total / getD t 1 0) in
     sym (getD-take (getD t 1 0) (drop 2 t) q 0 (d .index) ∙ getD-drop 2 t q 0)
 
 -- the first axis is assigned, then the later ones
-pub assigned-next : (k n : ℕ) (t vs : List ℕ) → (k ≡ 0 → ⊥) → Decoding (k - 1) n t
+pub assigned-next : (k total n : ℕ) (t vs : List ℕ) → (k ≡ 0 → ⊥) → Decoding (k - 1) total n t
     → let later = axesIn (k - 1) (laterIn t) in
-    assigned later (indices later (n % count later)) (set vs (getD t 0 0) (getD t (2 + n / count later) 0))
-    ≡ assigned (axesIn k t) (indices (axesIn k t) n) vs
+    let m = total / getD t 1 0 in
+    assigned later (indices later (n % m)) (set vs (getD t 0 0) (getD t (2 + n / m) 0)) ≡ assigned (axesIn k t) (indices (axesIn k t) n) vs
 unfolding axesIn indices assigned
-assigned-next zero n t vs z d = absurd (z refl)
-assigned-next (suc k) n t vs z d = rw (value-at (suc k - 1) n t d, suc-pred k)
+assigned-next zero total n t vs z d = absurd (z refl)
+assigned-next (suc k) total n t vs z d = rw (value-at (suc k - 1) total n t d, d .counted, suc-pred k)

@@ -48,21 +48,21 @@ pub fn points(table: &[u64], axes: u64) -> u64
 }
 
 // Gives each axis's name the value at its index: the first index is the number divided by the count of the later axes, the rest of the
-// number is decoded over these.
-fn decode(table: &[u64], axes: u64, number: u64, out: &mut [u64])
-    requires { ⌜ (axes ≤ 8) × (holds axes (now table) ≡ true) × (number < count (axesIn axes (now table))) × (14 ≤ length (now out)) ⌝ }
+// number is decoded over these. `total` is the count of all these axes, so a division by the first's length gives that of the later.
+fn decode(table: &[u64], axes: u64, total: u64, number: u64, out: &mut [u64])
+    requires { ⌜ (holds axes (now table) ≡ true) × (total ≡ count (axesIn axes (now table))) × (number < total) × (14 ≤ length (now out)) ⌝ }
     ensures { λ _. ⌜ now (out .exit) ≡ assigned (axesIn axes (now (table .entry))) (indices (axesIn axes (now (table .entry))) number) (now (out .entry)) ⌝ }
 {
     if axes == 0 {
         return;
     }
     let name = table[0] as usize;
-    let start = 2 + table[1] as usize;
-    let later = &table[start..];
-    let count = counted(later, axes - 1);
-    let index = 2 + (number / count) as usize;
+    let values = table[1];
+    let later = total / values;
+    let index = 2 + (number / later) as usize;
     out[name] = table[index];
-    decode(later, axes - 1, number % count, out);
+    let start = 2 + values as usize;
+    decode(&table[start..], axes - 1, later, number % later, out);
 }
 
 // Sets the fourteen values to their defaults: 0, but PSIZE 16.
@@ -91,6 +91,6 @@ pub fn experiment(table: &[u64], axes: u64, number: u64, out: &mut [u64]) -> u32
         return 24;
     }
     set_defaults(out);
-    decode(table, axes, number, out);
+    decode(table, axes, count, number, out);
     0
 }

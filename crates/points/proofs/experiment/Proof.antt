@@ -1,6 +1,7 @@
+use mathlib.Core.Path.{_∙_}
 use native.Mathlib.Omega.{arith}
 use borrow.Author.Needs.{needs}
-use Rattle.points.proofs.AnswerLaws.{below, answer-short, answer-refused, answer-done}
+use Rattle.points.proofs.AnswerLaws.{holding, answer-short, answer-refused, answer-done}
 use Rattle.points.proofs.experiment.Statement.{statement}
 use Rattle.points.proofs.experiment.Tie as tie
 
@@ -23,8 +24,10 @@ set-defaults-requires c κs = search needs
 decode-requires : tie.Need-decode-requires
 decode-requires c κs =
     let a = c .before .before .before .before .before .before .before .before .before .before .args in
-    let b = below (a .axes) (a .number) (a .table .now) (rw (c .before .before .before .before .before .before .points .ensures) at (c .before .before .before .before .before .if2 .left)) in
-    (b .few, b .held, b .counted, omega (arith, c .before .before .before .set-defaults .kept .0, c .before .before .before .before .before .before .before .if1 .left))
+    let p = c .before .before .before .before .before .before .points .ensures in
+    let h = c .before .before .before .before .before .if2 .left in
+    let d = holding (a .axes) (a .number) (a .table .now) (rw p at h) in
+    (d .held, p ∙ d .counted, h, omega (arith, c .before .before .before .set-defaults .kept .0, c .before .before .before .before .before .before .before .if1 .left))
 
 same-length : tie.Need-same-length
 same-length c = search needs
