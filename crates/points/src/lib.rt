@@ -48,7 +48,7 @@ pub fn points(table: &[u64], axes: u64) -> u64
 }
 
 // Gives each axis's name the value at its index: the first index is the number divided by the count of the later axes, the rest of the
-// number is decoded over these. `total` is the count of all these axes, so a division by the first's length gives that of the later.
+// number is decoded over these. `total` is the count of all the axes: divided by the first one's length it is that of the later ones.
 fn decode(table: &[u64], axes: u64, total: u64, number: u64, out: &mut [u64])
     requires { ⌜ (holds axes (now table) ≡ true) × (total ≡ count (axesIn axes (now table))) × (number < total) × (14 ≤ length (now out)) ⌝ }
     ensures { λ _. ⌜ now (out .exit) ≡ assigned (axesIn axes (now (table .entry))) (indices (axesIn axes (now (table .entry))) number) (now (out .entry)) ⌝ }
