@@ -1,13 +1,11 @@
 -- Laws of `lines`: when a run of points answers 9, and one law for each way out. No contract cites this file. Assumes nothing.
 use mathlib.Core.Path.{_≡_, refl, sym, ap, _∙_}
-use mathlib.Core.Bool.{Bool, true, false, cond, _||_}
+use mathlib.Core.Bool.{Bool, true, false, cond}
 use mathlib.Core.List.{List, [], _∷_}
-use Prim.Native.Nat.{ℕ, _<_}
+use Prim.Native.Nat.{ℕ}
 use native.Mathlib.Omega.{arith}
-use borrow.Author.Tests.{ltb-false}
-use lib.Dec.{ltb}
 use lib.ListN.{length, set}
-use Rattle.memory.proofs.Tests.{or-false-left}
+use Rattle.memory.specs.Bits.{noMemory}
 use Rattle.listing.specs.Listing.{put}
 use Rattle.run.specs.declared.Listed.{Listed}
 use Rattle.run.specs.Lines.{badShape, badPoints, linesOf, written, imageAfter, memoryAfter}
@@ -16,18 +14,15 @@ use Rattle.c_arrays.specs.Out.{short, answered, stored}
 use Rattle.c_plan.specs.Plan.{badLines}
 
 -- 9 is no other answer's number
-nine : (a b : Bool) → _≡_ {A = ℕ} (cond a 9 (cond b 24 0)) 9 → a ≡ true
-nine true b e = refl
-nine false true e = absurd (omega arith)
-nine false false e = absurd (omega arith)
+nine : (a b c : Bool) → _≡_ {A = ℕ} (cond a 9 (cond b 10 (cond c 24 0))) 9 → a ≡ true
+nine true b c e = refl
+nine false true c e = absurd (omega arith)
+nine false false true e = absurd (omega arith)
+nine false false false e = absurd (omega arith)
 
-other : (a b : Bool) → (_≡_ {A = ℕ} (cond a 9 (cond b 24 0)) 9 → ⊥) → a ≡ false
-other true b h = absurd (h refl)
-other false b h = refl
-
--- there is a place for the number of bytes
-pub has-place : (bytes : List ℕ) (draw : ℕ) → (short 1 bytes || ltb 7 draw) ≡ false → 0 < length bytes
-has-place bytes draw e = ltb-false _ _ (or-false-left (short 1 bytes) (ltb 7 draw) e)
+other : (a b c : Bool) → (_≡_ {A = ℕ} (cond a 9 (cond b 10 (cond c 24 0))) 9 → ⊥) → a ≡ false
+other true b c h = absurd (h refl)
+other false b c h = refl
 
 module _ (draw axes first k : ℕ) (t image memory out bytes : List ℕ) where
   -- the run, and whether its arguments are bad
@@ -42,18 +37,18 @@ module _ (draw axes first k : ℕ) (t image memory out bytes : List ℕ) where
   Ends r bytes′ image′ memory′ out′ =
       (r ≡ answered bad (call .answer))
       × (bytes′ ≡ stored bad bytes (call .length ∷ []))
-      × (image′ ≡ cond bad image (imageAfter image (length memory) (length out) axes t first k))
+      × (image′ ≡ cond bad image (imageAfter image (length memory) (length out) draw axes t first k))
       × (memory′ ≡ cond bad memory (memoryAfter memory (length image) (length out) draw axes t first k))
       × (out′ ≡ cond bad out (put 0 (written (length image) (length memory) (length out) draw axes t first k) out))
 
-  pub ends-bad : (short 1 bytes || ltb 7 draw) ≡ true → Ends 9 bytes image memory out
+  pub ends-bad : short 1 bytes ≡ true → Ends 9 bytes image memory out
   ends-bad e = rw e (refl, refl, refl, refl, refl)
 
-  module _ {r : Listed} {image′ memory′ out′ : List ℕ} (g : (short 1 bytes || ltb 7 draw) ≡ false) (l : run.Ends draw axes t first k image memory out r image′ memory′ out′) where
+  module _ {r : Listed} {image′ memory′ out′ : List ℕ} (g : short 1 bytes ≡ false) (l : run.Ends draw axes t first k image memory out r image′ memory′ out′) where
     pub ends-nine : r .answer ≡ 9 → Ends 9 bytes image′ memory′ out′
     unfolding linesOf
     ends-nine h =
-        let e = nine (badShape (length image) (length memory) k (length out)) (badPoints axes t first k) (sym (ap (λ (x : Listed). x .answer) (l .0)) ∙ h) in
+        let e = nine (badShape (length image) (length memory) draw k (length out)) (noMemory (length image)) (badPoints axes t first k) (sym (ap (λ (x : Listed). x .answer) (l .0)) ∙ h) in
         let n = run.ends-nine draw axes t first k image memory out e in
         rw (g, e) (refl, refl, l .1 .0 ∙ sym (n .1 .0), l .1 .1 .0 ∙ sym (n .1 .1 .0), l .1 .1 .1 ∙ sym (n .1 .1 .1))
 
@@ -61,7 +56,7 @@ module _ (draw axes first k : ℕ) (t image memory out bytes : List ℕ) where
     good : (r .answer ≡ 9 → ⊥) → bad ≡ false
     unfolding linesOf
     good h =
-        rw (g, other (badShape (length image) (length memory) k (length out)) (badPoints axes t first k) (λ q. h (ap (λ (x : Listed). x .answer) (l .0) ∙ q)))
+        rw (g, other (badShape (length image) (length memory) draw k (length out)) (noMemory (length image)) (badPoints axes t first k) (λ q. h (ap (λ (x : Listed). x .answer) (l .0) ∙ q)))
 
     pub ends-run : (r .answer ≡ 9 → ⊥) → Ends (r .answer) (set bytes 0 (r .length)) image′ memory′ out′
     ends-run h = rw (good h) (ap (λ (x : Listed). x .answer) (l .0), rw (l .0), l .1 .0, l .1 .1 .0, l .1 .1 .1)

@@ -16,6 +16,6 @@ badRead table out = short room table || short 5 out
 abbrev pub planResults : Plan → List ℕ
 planResults p = p .line ∷ p .words ∷ p .draw ∷ p .axes ∷ p .points ∷ []
 
--- there is no place for the number of bytes, no such drawing, or the memories or the output cannot be used
+-- there is no place for the number of bytes, or the memories, the drawing or the output cannot be used
 abbrev pub badLines : ℕ → ℕ → ℕ → ℕ → ℕ → List ℕ → Bool
-badLines words words′ size draw k bytes = (short 1 bytes || ltb 7 draw) || badShape words words′ k size
+badLines words words′ size draw k bytes = short 1 bytes || badShape words words′ draw k size

@@ -65,11 +65,11 @@ pub fn lines(
         let bad = badLines (length i) (length m) (length o) draw count b in let call = linesOf (length i) (length m) (length o) draw axes t first count in
         ⌜ (r ≡ answered bad (call .answer))
         × (now (bytes .exit) ≡ stored bad b (call .length ∷ []))
-        × (now (image .exit) ≡ cond bad i (imageAfter i (length m) (length o) axes t first count))
+        × (now (image .exit) ≡ cond bad i (imageAfter i (length m) (length o) draw axes t first count))
         × (now (memory .exit) ≡ cond bad m (memoryAfter m (length i) (length o) draw axes t first count))
         × (now (out .exit) ≡ cond bad o (put 0 (written (length i) (length m) (length o) draw axes t first count) o)) ⌝ }
 {
-    if (bytes.len() < 1) | (7 < draw) {
+    if bytes.len() < 1 {
         return 9;
     }
     let r = run::lines(table, axes, draw, first, count, image, memory, out);

@@ -48,7 +48,7 @@ pub extern "C" fn bh_lines(
         let bad = badLines (length i) (length m) (length o) draw count b in let call = linesOf (length i) (length m) (length o) draw axes t first count in
         ⌜ (r ≡ answered bad (call .answer))
         × (now (bytes .exit) ≡ stored bad b (call .length ∷ []))
-        × (now (image .exit) ≡ cond bad i (imageAfter i (length m) (length o) axes t first count))
+        × (now (image .exit) ≡ cond bad i (imageAfter i (length m) (length o) draw axes t first count))
         × (now (memory .exit) ≡ cond bad m (memoryAfter m (length i) (length o) draw axes t first count))
         × (now (out .exit) ≡ cond bad o (put 0 (written (length i) (length m) (length o) draw axes t first count) o)) ⌝ }
 {

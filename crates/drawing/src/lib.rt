@@ -6,7 +6,7 @@ ghost use Prim.Native.Nat.{ℕ, _+_, _*_, _%_, _^_, _<_, _≤_};
 ghost use lib.ListN.{length};
 ghost use Rattle.engine.specs.Engine.{stepOf, pixels};
 ghost use Rattle.drawing.specs.Operation.{operationOf, toXY, fromXY, sourceOf, copies, copiesPixels};
-ghost use Rattle.drawing.specs.Array.{rectangleOf, part, vAfter, startX, startY, destStart, srcStart, drawingOf, drawingFor};
+ghost use Rattle.drawing.specs.Array.{rectangleOf, part, vAfter, destStart, srcStart, drawingOf};
 ghost use Rattle.drawing.specs.Refusal.{badPitch, badPitches, badWindowOf, negativeStart, badDest, badSource, leaves, refusalOf};
 ghost use Rattle.drawing.specs.Draw.{refused, found, commonOf, doneSome, rowAfter, outcomeAt, outcome, drawn};
 use engine::Drawing;

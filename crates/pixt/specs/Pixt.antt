@@ -11,7 +11,6 @@ use Rattle.pixel.specs.Pixel.{topOf, pixelOf, unmasked, plotted}
 use Rattle.settings.specs.declared.Settings.{Settings}
 use Rattle.pixt.specs.declared.Lone.{Lone}
 use Rattle.pixt.specs.declared.PixtResult.{PixtResult}
-use Rattle.pixt.specs.Lone.{linearPixel, xySource, xyDestination}
 
 -- a refused call returns its number, no request, zero for visited and value, and settings and V as given
 abbrev pub refused : Settings → Bool → ℕ → PixtResult

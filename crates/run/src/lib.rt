@@ -16,7 +16,7 @@ ghost use Rattle.run.specs.Progress.{Holds, progressed};
 use drawing::Operation;
 use settings::Settings;
 
-// What a run of points hands back: 0, 9 or 24, and how many bytes of listing there are.
+// What a run of points hands back: 0, 9, 10 or 24, and how many bytes of listing there are.
 pub struct Listed {
     pub answer: u32,
     pub length: usize,
@@ -107,11 +107,11 @@ fn put_line(out: &mut [u8], at: usize, point: u64, ran: Ran) -> usize
     listing::numbers(out, at, &line)
 }
 
-// Are the memories not of one size from 1 to 32,768 words, or is there no room for the longest lines?
-fn bad_shape(words: usize, others: usize, count: u64, size: usize) -> bool
-    ensures { λ r. ⌜ r ≡ badShape words others count size ⌝ }
+// Are the memories not of one size up to 32,768 words, is the drawing none, or is there no room for the longest lines?
+fn bad_shape(words: usize, others: usize, draw: u64, count: u64, size: usize) -> bool
+    ensures { λ r. ⌜ r ≡ badShape words others draw count size ⌝ }
 {
-    (words == 0) | (32768 < words) | (words != others) | ((size as u64) / 80 < count)
+    (32768 < words) | (words != others) | (7 < draw) | ((size as u64) / 80 < count)
 }
 
 // Is some point not below the number of points?
@@ -196,8 +196,8 @@ fn run_points(
 }
 
 // Runs `count` points of a plan from `first` on, and puts their listing lines at the start of out; image and memory are left as the last point
-// left them. With 9 (the memories are not of one size from 1 to 32,768 words, or out has no room for lines of 80 bytes) and 24 (a point is
-// not below the plan's count) nothing changes.
+// left them. With 9 (the memories are not of one size up to 32,768 words, the drawing is above 7, or out has no room for lines of 80 bytes), 10
+// (they are empty) and 24 (a point is not below the plan's count) nothing changes.
 pub fn lines(
     table: &[u64],
     axes: u64,
@@ -209,13 +209,19 @@ pub fn lines(
     out: &mut [u8],
 ) -> Listed
     ensures { λ r. ⌜ r ≡ linesOf (length (now (image .entry))) (length (now (memory .entry))) (length (now (out .entry))) draw axes (now (table .entry)) first count ⌝ }
-    ensures { λ _. ⌜ now (image .exit) ≡ imageAfter (now (image .entry)) (length (now (memory .entry))) (length (now (out .entry))) axes (now (table .entry)) first count ⌝ }
+    ensures { λ _. ⌜ now (image .exit) ≡ imageAfter (now (image .entry)) (length (now (memory .entry))) (length (now (out .entry))) draw axes (now (table .entry)) first count ⌝ }
     ensures { λ _. ⌜ now (memory .exit) ≡ memoryAfter (now (memory .entry)) (length (now (image .entry))) (length (now (out .entry))) draw axes (now (table .entry)) first count ⌝ }
     ensures { λ _. ⌜ now (out .exit) ≡ put 0 (written (length (now (image .entry))) (length (now (memory .entry))) (length (now (out .entry))) draw axes (now (table .entry)) first count) (now (out .entry)) ⌝ }
 {
-    if bad_shape(image.len(), memory.len(), count, out.len()) {
+    if bad_shape(image.len(), memory.len(), draw, count, out.len()) {
         return Listed {
             answer: 9,
+            length: 0,
+        };
+    }
+    if memory::no_memory(image.len()) {
+        return Listed {
+            answer: 10,
             length: 0,
         };
     }

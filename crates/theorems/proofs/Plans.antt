@@ -2,13 +2,15 @@
 use mathlib.Core.Path.{_≡_, refl, ap, _∙_}
 use mathlib.Core.Bool.{false}
 use mathlib.Core.List.{List, _++_}
-use Prim.Native.Nat.{ℕ, _*_, _≤_}
+use Prim.Native.Nat.{ℕ, _*_, _<_, _≤_}
 use native.Mathlib.Omega.{arith}
 use borrow.Author.Tests.{le-ltb, ne-eqb, eq-eqb}
 use lib.ListN.{length, drop}
+use Rattle.memory.specs.Bits.{noMemory}
 use Rattle.points.specs.Axes.{Axis}
 use Rattle.points.specs.Table.{axesIn, tableOf}
 use Rattle.points.proofs.TableLaws.{axesIn-tableOf, pointsIn-tableOf}
+use Rattle.points.proofs.ExperimentLaws.{experiment-named, experiment-other}
 use Rattle.points.proofs.OneToOne.{pointsOneToOne}
 use Rattle.plan.specs.Reading.{reading}
 use Rattle.plan.specs.Table.{room, tableAfter}
@@ -17,7 +19,7 @@ use Rattle.plan.proofs.AcceptedLaws.{reading-accepted}
 use Rattle.run.proofs.LinesLaws.{pointLines-add}
 use Rattle.run.proofs.ValuesLaws.{settings-kept, seeds-told}
 use Rattle.run.specs.Lines.{pointLines, longest, badShape, badPoints, written}
-use Rattle.theorems.specs.Plans.{NumbersAreExperiments, TableIsPlan, RunIsListing, PartsJoin, SettingsArrive, SeedsArrive}
+use Rattle.theorems.specs.Plans.{NumbersAreExperiments, TableIsPlan, RunIsListing, PartsJoin, NamesHaveValues, SettingsArrive, SeedsArrive}
 
 pub numbers-are-experiments : NumbersAreExperiments
 numbers-are-experiments text e = pointsOneToOne (reading text .axes) (reading-sound text)
@@ -33,23 +35,30 @@ table-is-plan text t h e =
     rw (table-is text t h)
     (axesIn-tableOf axes _, pointsIn-tableOf axes _ (reading-sound text))
 
-written-of : (words size draw axes first k : ℕ) (t : List ℕ) → badShape words words k size ≡ false → badPoints axes t first k ≡ false
+written-of : (words size draw axes first k : ℕ) (t : List ℕ) → badShape words words draw k size ≡ false → noMemory words ≡ false → badPoints axes t first k ≡ false
     → written words words size draw axes t first k ≡ pointLines words draw (axesIn axes t) first k
-written-of words size draw axes first k t b p = rw (b, p)
+written-of words size draw axes first k t b n p = rw (b, n, p)
 
-shape-of : (words k size : ℕ) → 1 ≤ words → words ≤ 32768 → longest * k ≤ size → badShape words words k size ≡ false
-shape-of words k size l h r =
-    rw (ne-eqb words 0 (omega arith), le-ltb 32768 words h, eq-eqb words words refl, le-ltb size (longest * k) r)
+shape-of : (words draw k size : ℕ) → words ≤ 32768 → draw < 8 → longest * k ≤ size → badShape words words draw k size ≡ false
+shape-of words draw k size h d r =
+    rw (le-ltb 32768 words h, eq-eqb words words refl, le-ltb 7 draw (omega arith), le-ltb size (longest * k) r)
+
+some-of : (words : ℕ) → 1 ≤ words → words ≤ 32768 → noMemory words ≡ false
+some-of words l h = rw (ne-eqb words 0 (omega arith), le-ltb 1048576 words (omega arith))
 
 pub run-is-listing : RunIsListing
 run-is-listing text t first k size h e l r =
     let a = reading-accepted text e in
     let p = table-is-plan text t h e in
-    written-of _ size _ _ first k _ (shape-of _ k size (a .some-words) (a .words-le) r) (rw (p .1) (le-ltb _ _ l))
+    written-of _ size _ _ first k _ (shape-of _ _ k size (a .words-le) (a .draw-lt) r) (some-of _ (a .some-words) (a .words-le)) (rw (p .1) (le-ltb _ _ l))
     ∙ ap (λ (axes : List Axis). pointLines (reading text .words) (reading text .draw) axes first k) (p .0)
 
 pub parts-join : PartsJoin
 parts-join r = pointLines-add (r .words) (r .draw) (r .axes)
+
+pub names-have-values : NamesHaveValues
+names-have-values text n =
+    (experiment-named (reading text .axes) n (reading-sound text), experiment-other (reading text .axes) n)
 
 pub settings-arrive : SettingsArrive
 settings-arrive text = settings-kept (reading text .axes) (reading-sound text)

@@ -1,15 +1,16 @@
 -- Plans and their runs (demand 2): every statement that a reader must believe. The proofs are in proofs/Plans.antt. Assumes nothing.
 use mathlib.Core.Path.{_≡_}
-use mathlib.Core.Bool.{cond}
+use mathlib.Core.Bool.{false, cond}
 use mathlib.Core.List.{List, _++_}
 use Prim.Native.Nat.{ℕ, _+_, _*_, _≤_, _<_}
 use lib.Dec.{eqb}
-use lib.ListN.{length}
+use lib.ListN.{length, getD}
+use Rattle.lists.specs.Search.{any}
 use Rattle.settings.specs.Settings.{settingsOf}
-use Rattle.points.specs.Axes.{count}
-use Rattle.points.specs.Points.{experiment}
+use Rattle.points.specs.Axes.{Axis, count, defaults}
+use Rattle.points.specs.Points.{indices, experiment}
 use Rattle.points.specs.Table.{axesIn, pointsIn}
-use Rattle.points.specs.OneToOne.{OneToOne}
+use Rattle.points.specs.OneToOne.{isNamed, OneToOne}
 use Rattle.plan.specs.Reading.{Reading, reading}
 use Rattle.plan.specs.Table.{room, tableAfter}
 use Rattle.listing.specs.Listing.{heading, refusedLine}
@@ -50,6 +51,15 @@ RunIsListing =
 -- Parts joined in order are the whole: a listing can be cut anywhere.
 abbrev pub PartsJoin : Type 0
 PartsJoin = (r : Reading) (first j k : ℕ) → linesFrom r first (j + k) ≡ linesFrom r first j ++ linesFrom r (first + j) k
+
+-- At every point the name of each axis has the axis's value at its index, and a name of no axis has its default.
+abbrev pub NamesHaveValues : Type 0
+NamesHaveValues =
+    (text : List ℕ) (n : ℕ)
+    → ((none : Axis) (j : ℕ) → j < length (reading text .axes)
+    → getD (experiment (reading text .axes) n) (getD (reading text .axes) j none .name) 0
+    ≡ getD (getD (reading text .axes) j none .values) (getD (indices (reading text .axes) n) j 0) 0)
+    × ((name : ℕ) → any (isNamed name) (reading text .axes) ≡ false → getD (experiment (reading text .axes) n) name 0 ≡ getD defaults name 0)
 
 -- Every value arrives whole: the drawing takes the settings of an experiment as they are.
 abbrev pub SettingsArrive : Type 0

@@ -1,13 +1,15 @@
 -- `lines` meets its contract.
+use native.Mathlib.Omega.{arith}
 use borrow.Author.Needs.{needs}
-use Rattle.c_plan.proofs.LinesLaws.{has-place, ends-bad, ends-nine, ends-run}
+use borrow.Author.Tests.{lt-ltb, le-ltb}
+use Rattle.c_plan.proofs.LinesLaws.{ends-bad, ends-nine, ends-run}
 use Rattle.c_plan.proofs.lines.Statement.{statement}
 use Rattle.c_plan.proofs.lines.Tie as tie
 
 returns : tie.Need-returns
 returns c =
     let x = c .before .before .before .before .before .before .args in
-    ends-bad (x .draw) (x .axes) (x .first) (x .count) (x .table .now) (x .image .now) (x .memory .now) (x .out .now) (x .bytes .now) (c .if1 .taken)
+    ends-bad (x .draw) (x .axes) (x .first) (x .count) (x .table .now) (x .image .now) (x .memory .now) (x .out .now) (x .bytes .now) (lt-ltb _ _ (c .if1 .taken))
 
 lines-requires : tie.Need-lines-requires
 lines-requires c κs = search needs
@@ -26,13 +28,12 @@ returns-2 c =
     let l = c .before .before .before .before .before .before .before .before in
     let i = l .before .before .before .before in
     let x = i .before .before .before .before .before .before .args in
-    ends-nine (x .draw) (x .axes) (x .first) (x .count) (x .table .now) (x .image .now) (x .memory .now) (x .out .now) (x .bytes .now) (i .if1 .left) (l .lines .ensures) (c .if2 .taken)
+    ends-nine (x .draw) (x .axes) (x .first) (x .count) (x .table .now) (x .image .now) (x .memory .now) (x .out .now) (x .bytes .now) (le-ltb _ _ (i .if1 .left)) (l .lines .ensures) (c .if2 .taken)
 
 slice-write-bytes : tie.Need-slice-write-bytes
 slice-write-bytes c =
     let i = c .before .before .before .before .before .before .before .before .before .before .before .before in
-    let x = i .before .before .before .before .before .before .args in
-    has-place (x .bytes .now) (x .draw) (i .if1 .left)
+    omega (arith, i .if1 .left)
 
 same-length-4 : tie.Need-same-length-4
 same-length-4 c = search needs
@@ -51,7 +52,7 @@ returns-3 c =
     let l = c .before .before .before .before .before .before .before .before in
     let i = l .before .before .before .before in
     let x = i .before .before .before .before .before .before .args in
-    ends-run (x .draw) (x .axes) (x .first) (x .count) (x .table .now) (x .image .now) (x .memory .now) (x .out .now) (x .bytes .now) (i .if1 .left) (l .lines .ensures) (c .if2 .left)
+    ends-run (x .draw) (x .axes) (x .first) (x .count) (x .table .now) (x .image .now) (x .memory .now) (x .out .now) (x .bytes .now) (le-ltb _ _ (i .if1 .left)) (l .lines .ensures) (c .if2 .left)
 
 pub lines-spec : {M : Type 1} → statement M
 lines-spec =
