@@ -5,10 +5,10 @@
    passed. An array is passed as a pointer and its length in elements. The pointer may not be null,
    also where the length is 0, and the arrays of one call may not overlap.
 
-   The answer of a call is 0, 1 where a drawing stopped at its budget, or the number of the refusal
-   that applies:
-      9  an array is too short, a mode or an operation is none, or a number is too large for its
-         place
+   The answer of a call, but for the two bh_put_ calls, is 0, 1 where a drawing stopped at its
+   budget, or the number of the refusal that applies:
+      9  an array is too short or of the wrong size, a mode or an operation is none, or a number is
+         too large for its place
      10  the memory is empty or above 1,048,576 words
      11  PSIZE isn't 1, 2, 4, 8 or 16
      12  PP (CONTROL bits 10-14) is above 21, or PBH (bit 8) or PBV (bit 9) is 1
@@ -225,10 +225,10 @@ uint32_t bh_experiment(const uint64_t *table, size_t table_length, uint64_t axes
 /* Runs `count` points from `first` on, each over the image of its SEED, and puts their lines of the
    listing at the start of out; written[0] is how many bytes these are. The image and the memory are
    those of the last point then; with count 0 they stay. What they hold before doesn't matter.
-   Answers 0; 9 (draw is above 7, the image and the memory aren't of one size of 1 to 32,768 words,
-   out has less than 80 x count bytes, or written is empty); or 24 where some point isn't below the
-   number of points, the table doesn't hold the axes, or there are more than 8. With 24 written[0]
-   is 0, and nothing else changes. */
+   Answers 0; 9 (draw is above 7, the image and the memory aren't of one size up to 32,768 words, out
+   has less than 80 x count bytes, or written is empty); 10 where they are empty; or 24 where some
+   point isn't below the number of points, the table doesn't hold the axes, or there are more than 8.
+   With 10 and 24 written[0] is 0, and nothing else changes. */
 uint32_t bh_lines(const uint64_t *table, size_t table_length, uint64_t axes, uint64_t draw,
                   uint64_t first, uint64_t count, uint16_t *image, size_t image_words,
                   uint16_t *memory, size_t memory_words, uint8_t *out, size_t out_length,

@@ -381,7 +381,10 @@ static void compare_refused_batch(void)
     switch (random_below(10)) {
     case 0: c.image_words = c.image_words - 1; break;
     case 1: c.memory_words = c.memory_words + 1 + random_below(BEHIND); break;
-    case 2: c.image_words = c.memory_words = 0; break;
+    case 2:
+        answer = BH_NO_MEMORY;
+        c.image_words = c.memory_words = 0;
+        break;
     case 3: c.image_words = c.memory_words = PLAN_WORDS + 1; break;
     case 4: c.out_length = BH_LINE * (size_t)count - 1 - random_below(BH_LINE); break;
     case 5: c.written_length = 0; break;
@@ -538,8 +541,9 @@ void compare_plans(uint64_t count)
         compare_plan();
     }
     int missing = print_plan_answers(), other = print_plan_features();
-    printf("bh_lines: %llu answered 0, %llu 9, %llu 24; bh_experiment: %llu 0, %llu 9, %llu 24\n",
+    printf("bh_lines: %llu answered 0, %llu 9, %llu 10, %llu 24; bh_experiment: %llu 0, %llu 9, %llu 24\n",
            (unsigned long long)lines_by_answer[DONE], (unsigned long long)lines_by_answer[BH_SHORT],
+           (unsigned long long)lines_by_answer[BH_NO_MEMORY],
            (unsigned long long)lines_by_answer[REFUSED_POINT],
            (unsigned long long)experiments_by_answer[DONE],
            (unsigned long long)experiments_by_answer[BH_SHORT],

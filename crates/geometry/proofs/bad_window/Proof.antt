@@ -16,7 +16,8 @@ negative-requires-4 : tie.Need-negative-requires-4
 negative-requires-4 c κs = search needs
 
 returns : tie.Need-returns
-returns c = cc
+returns c =
+    rw (c .negative4 .ensures, c .before .negative3 .ensures, c .before .before .negative2 .ensures, c .before .before .before .negative .ensures)
 
 pub bad-window-spec : {M : Type 1} → statement M
 bad-window-spec =
