@@ -228,8 +228,9 @@ uint32_t plain_experiment(const struct plain_plan *plan, uint64_t point, uint64_
     values[PSIZE] = 16;
     for (uint32_t i = plan->axes; i-- > 0;) {
         const struct plain_axis *axis = &plan->axis[i];
+        const uint64_t rest = point / axis->count;
         values[axis->name] = axis->values[point % axis->count];
-        point /= axis->count;
+        point = rest;
     }
     return 0;
 }
