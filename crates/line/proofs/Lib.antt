@@ -1,3 +1,4 @@
+pub mod BlockLaws
 pub mod FieldsLaws
 pub mod LineLaws
 pub mod TestsLaws

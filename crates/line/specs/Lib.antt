@@ -1,3 +1,4 @@
+pub mod Block
 pub mod Fields
 pub mod Line
 pub mod Tests

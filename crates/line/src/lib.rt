@@ -9,6 +9,7 @@ ghost use Rattle.text.specs.Text.{fieldsOf, same};
 ghost use Rattle.points.specs.Axes.{limit};
 ghost use Rattle.line.specs.Fields.{fieldsFrom, behind, thirdAt};
 ghost use Rattle.line.specs.Tests.{isPair, passes};
+ghost use Rattle.line.specs.Block.{BlockAt};
 ghost use Rattle.line.specs.Line.{fieldValue, noNumber, sizeOf, memoryOf, drawOf, nameOf, valuesOf, badForm, badName, badValues, tooMany, refusal, storedAt};
 use text::Number;
 
@@ -180,7 +181,6 @@ fn greatest(name: u64) -> u64
 enum Test {
     NoNumber,
     Above(u64),
-    Equal(u64),
 }
 
 // Does a field pass a test?
@@ -190,7 +190,6 @@ fn passes(field: &[u8], test: Test) -> bool
     match test {
         Test::NoNumber => no_number(field),
         Test::Above(v) => v < field_value(field),
-        Test::Equal(v) => v == field_value(field),
     }
 }
 
@@ -209,20 +208,95 @@ fn any_field(line: &[u8], from: usize, test: Test) -> bool
     false
 }
 
-// Does some value stand twice among those from a place on?
+// Does some value stand twice among those from a place on? Block by block: in the block, or in it and behind it.
 fn any_twice(line: &[u8], from: usize) -> bool
     ensures { λ r. ⌜ r ≡ anyPair eqb (map fieldValue (fieldsFrom (now (line .entry)) from)) ⌝ }
 {
     let mut p = from;
     while p <= line.len() {
-        let end = text::part_end(line, p, 9);
-        let v = field_value(&line[p..end]);
-        p = end + 1;
-        if any_field(line, p, Test::Equal(v)) {
+        let b = block_at(line, p);
+        let values = b.values;
+        let count = b.count;
+        p = b.behind;
+        if any_same(&values[..count]) {
+            return true;
+        }
+        if any_among(line, p, &values[..count]) {
             return true;
         }
     }
     false
+}
+
+// Values of a line, read once: so many of them, and the place behind them.
+struct Block {
+    values: [u64; 64],
+    count: usize,
+    behind: usize,
+}
+
+// The values from a place on, at most 64.
+fn block_at(line: &[u8], from: usize) -> Block
+    ensures { λ r. ⌜ BlockAt (now (line .entry)) from r ⌝ }
+{
+    let mut values = [0; 64];
+    let mut count = 0;
+    let mut p = from;
+    while (count < 64) & (p <= line.len()) {
+        let end = text::part_end(line, p, 9);
+        values[count] = field_value(&line[p..end]);
+        count += 1;
+        p = end + 1;
+    }
+    Block {
+        values,
+        count,
+        behind: p,
+    }
+}
+
+// Does some number stand twice?
+fn any_same(held: &[u64]) -> bool
+    ensures { λ r. ⌜ r ≡ anyPair eqb (now (held .entry)) ⌝ }
+{
+    let mut k = 0;
+    while k < held.len() {
+        let v = held[k];
+        k += 1;
+        if is_among(&held[k..], v) {
+            return true;
+        }
+    }
+    false
+}
+
+// Is some value from a place on among the numbers held?
+fn any_among(line: &[u8], from: usize, held: &[u64]) -> bool
+    ensures { λ r. ⌜ r ≡ any (λ f. any (eqb (fieldValue f)) (now (held .entry))) (fieldsFrom (now (line .entry)) from) ⌝ }
+{
+    let mut p = from;
+    while p <= line.len() {
+        let end = text::part_end(line, p, 9);
+        let v = field_value(&line[p..end]);
+        if is_among(held, v) {
+            return true;
+        }
+        p = end + 1;
+    }
+    false
+}
+
+// Is a number among those held? Every one is tested, so that the loop has no other exit.
+fn is_among(held: &[u64], v: u64) -> bool
+    ensures { λ r. ⌜ r ≡ any (eqb v) (now (held .entry)) ⌝ }
+{
+    let mut found = false;
+    let mut k = 0;
+    while k < held.len() {
+        found = found | (v == held[k]);
+        k += 1;
+    }
+    found
 }
 
 // How many fields there are from a place on.

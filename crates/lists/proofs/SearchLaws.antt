@@ -141,3 +141,30 @@ pub anyPair-snoc : {A : Type 0} (r : A → A → Bool) (symmetric : (a b : A) �
 unfolding any anyPair
 anyPair-snoc r s x [] = refl
 anyPair-snoc r s x (y ∷ l) = rw (any-snoc (r y) x l, anyPair-snoc r s x l, s y x) (or-swap (r x y) (any (r y) l) (any (r x) l) (anyPair r l))
+
+-- Two lists joined
+
+any-append : {A : Type 0} (p : A → Bool) (l m : List A) → any p (l ++ m) ≡ (any p l || any p m)
+unfolding any
+any-append p [] m = refl
+any-append p (x ∷ l) m = rw (any-append p l m) (sym (or-assoc (p x) _ _))
+
+any-or : {A : Type 0} (p q : A → Bool) (l : List A) → any (λ x. p x || q x) l ≡ (any p l || any q l)
+unfolding any
+any-or p q [] = refl
+any-or p q (x ∷ l) = rw (any-or p q l) (or-swap (p x) (q x) _ _)
+
+any-never : {A : Type 0} (l : List A) → any (λ _. false) l ≡ false
+unfolding any
+any-never [] = refl
+any-never (x ∷ l) = any-never l
+
+-- a pair of the first list, a later element in relation to one of the first list, or a pair of the second
+pub anyPair-append : {A : Type 0} (r : A → A → Bool) (symmetric : (a b : A) → r a b ≡ r b a) (l m : List A)
+    → anyPair r (l ++ m) ≡ (anyPair r l || (any (λ y. any (r y) l) m || anyPair r m))
+unfolding any anyPair
+anyPair-append r s [] m = rw (any-never m)
+anyPair-append r s (x ∷ l) m =
+    let turned : any (λ y. r y x) m ≡ any (r x) m = ap (λ (p : _ → Bool). any p m) (fun-ext (λ y. s y x)) in
+    rw (any-append (r x) l m, anyPair-append r s l m, any-or (λ y. r y x) (λ y. any (r y) l) m, turned, or-assoc (any (r x) m) (any (λ y. any (r y) l) m) (anyPair r m))
+    (or-swap (any (r x) l) (any (r x) m) (anyPair r l) _)

@@ -15,31 +15,12 @@ enum-known-test c = search needs
 field-value-requires : tie.Need-field-value-requires
 field-value-requires c κs = search needs
 
-enum-known-test-2 : tie.Need-enum-known-test-2
-enum-known-test-2 c = search needs
-
-field-value-requires-2 : tie.Need-field-value-requires-2
-field-value-requires-2 c κs = search needs
-
 returns : tie.Need-returns
 returns c = rw (c .before .enum-told .given .1) (c .no-number .ensures)
 
 returns-2 : tie.Need-returns-2
 returns-2 c = rw (c .before .before .test .given .1, c .field-value .ensures)
 
-returns-3 : tie.Need-returns-3
-returns-3 c = rw (c .before .before .test2 .given .1, c .field-value2 .ensures)
-
 pub passes-spec : {M : Type 1} → statement M
 passes-spec =
-    tie.close
-    (tie.spec
-    enum-told
-    no-number-requires
-    enum-known-test
-    field-value-requires
-    enum-known-test-2
-    field-value-requires-2
-    returns
-    returns-2
-    returns-3)
+    tie.close (tie.spec enum-told no-number-requires enum-known-test field-value-requires returns returns-2)
