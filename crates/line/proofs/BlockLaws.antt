@@ -10,15 +10,20 @@ use lib.Dec.{eqb, ltb, leb}
 use lib.ListN.{length, getD, set, take, drop, length-set, length-drop, take-append-drop, drop-of-length-le}
 use lib.Seq.{drop-cons, take-suc-set, length-take-le, take-all, take-at, drop-at}
 use Rattle.lists.specs.Search.{any, anyPair}
-use Rattle.lists.proofs.TestLaws.{and-eq-true, eqb-comm}
+use Rattle.lists.proofs.TestLaws.{and-eq-true, or-swap, eqb-comm}
 use Rattle.lists.proofs.SearchLaws.{anyPair-append}
-use Rattle.text.specs.Text.{upTo}
+use Rattle.text.specs.Text.{upTo, fieldsOf}
+use Rattle.text.specs.Number.{numberOf, valueOf, isBad}
+use Rattle.text.specs.declared.Number.{Number}
+use Rattle.points.specs.Axes.{limit}
 use Rattle.line.specs.declared.Block.{Block}
-use Rattle.line.specs.Line.{fieldValue}
-use Rattle.line.specs.Fields.{fieldsFrom}
+use Rattle.line.specs.declared.Test.the-variants.{Above}
+use Rattle.line.specs.Line.{fieldValue, noNumber, nameOf, valuesOf, badValues}
+use Rattle.line.specs.Tests.{passes}
+use Rattle.line.specs.Fields.{fieldsFrom, thirdAt}
 use Rattle.line.specs.Block.{valuesFrom, BlockAt}
-use Rattle.line.proofs.FieldsLaws.{fieldsFrom-cons, fieldsFrom-past}
-use Rattle.line.proofs.TestsLaws.{any-map}
+use Rattle.line.proofs.FieldsLaws.{fieldsFrom-cons, fieldsFrom-past, fieldsFrom-thirdAt}
+use Rattle.line.proofs.TestsLaws.{any-map, any-above}
 
 -- A search among numbers held, from an index on
 
@@ -46,30 +51,36 @@ module _ (l : List ℕ) (i : ℕ) where
   unfolding anyPair
   anyPair-end h = rw (drop-of-length-le l h)
 
--- A block while it is filled: the values read and those left are all the values
+-- A block while it is filled: the values read and those left are all the values, and what the fields read tell is told
 
-pub record Filled (line : List ℕ) (from : ℕ) (values : List ℕ) (count p : ℕ) : Type 0 where
+pub record Filled (line : List ℕ) (from most : ℕ) (values : List ℕ) (count p : ℕ) (bad above : Bool) : Type 0 where
   pub size : length values ≡ 64
   pub room : count ≤ 64
   pub split : valuesFrom line from ≡ take count values ++ valuesFrom line p
   pub passed : from + count ≤ p
+  pub told : any noNumber (fieldsFrom line from) ≡ (bad || any noNumber (fieldsFrom line p))
+  pub over : any (passes (Above most)) (fieldsFrom line from) ≡ (above || any (passes (Above most)) (fieldsFrom line p))
 
 -- there is room, and the place is one of the line
 pub fill-test : (count p n : ℕ) → (ltb count 64 && leb p n) ≡ true → (count < 64) × (p ≤ n)
 fill-test count p n e = let t = and-eq-true (ltb count 64) (leb p n) e in (ltb-true _ _ (t .0), leb-true _ _ (t .1))
 
-module _ {line : List ℕ} {from : ℕ} {values : List ℕ} {count p : ℕ} (f : Filled line from values count p) where
-  -- with v the value of the field at the place, and e its end
-  pub filled-next : (e v : ℕ) → e ≡ p + length (upTo 9 (drop p line)) → p ≤ length line → v ≡ fieldValue (take (e - p) (drop p line)) → count < 64
-      → Filled line from (set values count v) (count + 1) (e + 1)
-  filled-next e v is l at h =
-      let left : valuesFrom line p ≡ v ∷ valuesFrom line (e + 1) = rw (at, fieldsFrom-cons line p e is l) in
+module _ {line : List ℕ} {from most : ℕ} {values : List ℕ} {count p : ℕ} {bad above : Bool} (f : Filled line from most values count p bad above) where
+  -- with e the end of the field at the place, and n what is read there
+  pub filled-next : (e v : ℕ) (n : Number) (t : Bool) → e ≡ p + length (upTo 9 (drop p line)) → p ≤ length line → n ≡ numberOf (take (e - p) (drop p line))
+      → v ≡ valueOf n → t ≡ isBad n → count < 64 → Filled line from most (set values count v) (count + 1) (e + 1) (bad || t) (above || ltb most v)
+  unfolding any
+  filled-next e v n t is l read at none h =
+      let here : fieldsFrom line p ≡ take (e - p) (drop p line) ∷ fieldsFrom line (e + 1) = fieldsFrom-cons line p e is l in
+      let left : valuesFrom line p ≡ v ∷ valuesFrom line (e + 1) = rw (at, read, here) in
       let more : take (count + 1) (set values count v) ≡ take count values ++ (v ∷ []) = rw add-one (take-suc-set values count v (omega arith)) in
       record {
         size = length-set values count v ∙ f .size;
         room = omega arith;
         split = f .split ∙ rw (left, more, append-assoc);
         passed = omega arith;
+        told = f .told ∙ rw (here, none, read) (sym (or-assoc bad _ _));
+        over = f .over ∙ rw (here, at, read) (sym (or-assoc above _ _));
       }
 
   held-full : count ≡ 64 → (take count values ≡ take 64 (valuesFrom line from)) × (valuesFrom line p ≡ drop 64 (valuesFrom line from))
@@ -92,14 +103,14 @@ module _ {line : List ℕ} {from : ℕ} {values : List ℕ} {count p : ℕ} (f :
       let h : 64 ≤ count = ltb-false _ _ s in
       (held-full (omega arith) .0, held-full (omega arith) .1, λ l. omega arith)
 
-  pub filled-end : (ltb count 64 && leb p (length line)) ≡ false → BlockAt line from (record { values = values; count = count; behind = p })
+  pub filled-end : (ltb count 64 && leb p (length line)) ≡ false → BlockAt line from most (record { values = values; count = count; behind = p; bad = bad; above = above })
   filled-end e =
       let h = held-end _ _ refl refl e in
-      record { room = omega arith; held = h .0; left = h .1; onwards = h .2 }
+      record { room = omega arith; held = h .0; left = h .1; onwards = h .2; told = f .told; over = f .over }
 
 -- Values that stand twice: in a block, in it and behind it, or behind it
 
-module _ {line : List ℕ} {from : ℕ} {b : Block} (at : BlockAt line from b) where
+module _ {line : List ℕ} {from most : ℕ} {b : Block} (at : BlockAt line from most b) where
   anyPair-block : anyPair eqb (valuesFrom line from)
       ≡ (anyPair eqb (take (b .count) (b .values))
       || (any (λ f. any (eqb (fieldValue f)) (take (b .count) (b .values))) (fieldsFrom line (b .behind)) || anyPair eqb (valuesFrom line (b .behind))))
@@ -119,3 +130,41 @@ module _ {line : List ℕ} {from : ℕ} {b : Block} (at : BlockAt line from b) w
       → any (λ f. any (eqb (fieldValue f)) (take (b .count) (b .values))) (fieldsFrom line (b .behind)) ≡ false
       → anyPair eqb (valuesFrom line from) ≡ anyPair eqb (valuesFrom line (b .behind))
   block-next s t = anyPair-block ∙ rw (s, t)
+
+-- Values too large or twice, in the order in which they are looked for: in the block, then behind it and in it, then behind it alone
+
+or-arrange : (a r s m t : Bool) → (a || r || (s || (m || t))) ≡ (a || s || (r || m || t))
+or-arrange a r s m t = or-swap a r s (m || t) ∙ ap (λ (x : Bool). a || s || x) (sym (or-assoc r m t))
+
+abbrev pub badFrom : List ℕ → ℕ → ℕ → Bool
+badFrom line from most = any (leb (most + 1)) (valuesFrom line from) || anyPair eqb (valuesFrom line from)
+
+abbrev pub badIn : Block → Bool
+badIn b = b .above || anyPair eqb (take (b .count) (b .values))
+
+abbrev pub badBehind : List ℕ → ℕ → Block → Bool
+badBehind line most b =
+    any (passes (Above most)) (fieldsFrom line (b .behind)) || any (λ f. any (eqb (fieldValue f)) (take (b .count) (b .values))) (fieldsFrom line (b .behind))
+
+module _ {line : List ℕ} {from most : ℕ} {b : Block} (at : BlockAt line from most b) where
+  badFrom-block : badFrom line from most ≡ (badIn b || (badBehind line most b || anyPair eqb (valuesFrom line (b .behind))))
+  badFrom-block =
+      let held = take (b .count) (b .values) in
+      let rest = fieldsFrom line (b .behind) in
+      rw (any-above most (most + 1) (fieldsFrom line from) refl, at .over, anyPair-block at)
+      (or-arrange (b .above) (any (passes (Above most)) rest) (anyPair eqb held) (any (λ f. any (eqb (fieldValue f)) held) rest) (anyPair eqb (map fieldValue rest)))
+
+  pub badFrom-in : badIn b ≡ true → badFrom line from most ≡ true
+  badFrom-in t = badFrom-block ∙ rw t
+
+  pub badFrom-behind : badIn b ≡ false → badBehind line most b ≡ true → badFrom line from most ≡ true
+  badFrom-behind s t = badFrom-block ∙ rw (s, t)
+
+  pub badFrom-next : badIn b ≡ false → badBehind line most b ≡ false → badFrom line from most ≡ anyPair eqb (valuesFrom line (b .behind))
+  badFrom-next s t = badFrom-block ∙ rw (s, t)
+
+-- at the third field these are the values of an axis line, against the greatest of its name
+pub badFrom-thirdAt : (line : List ℕ) (from name most : ℕ) → from ≡ thirdAt line → name ≡ nameOf (fieldsOf line) → most + 1 ≡ limit name
+    → badFrom line from most ≡ badValues (nameOf (fieldsOf line)) (valuesOf (fieldsOf line))
+unfolding valuesOf
+badFrom-thirdAt line from name most at named greatest = rw (at, greatest, named, fieldsFrom-thirdAt line)

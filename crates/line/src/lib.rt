@@ -1,16 +1,18 @@
 // The three kinds of plan line, each over the line's bytes.
 ghost use mathlib.Core.Path.{_≡_};
+ghost use mathlib.Core.Bool.{_||_};
 ghost use mathlib.Core.List.{[], map};
 ghost use Prim.Native.Nat.{_+_, _≤_};
-ghost use lib.Dec.{eqb};
-ghost use lib.ListN.{length, getD};
+ghost use lib.Dec.{eqb, leb};
+ghost use lib.ListN.{length, getD, drop};
 ghost use Rattle.lists.specs.Search.{any, anyPair, first};
 ghost use Rattle.text.specs.Text.{fieldsOf, same};
+ghost use Rattle.text.specs.Number.{valueOf, isBad};
 ghost use Rattle.points.specs.Axes.{limit};
 ghost use Rattle.line.specs.Fields.{fieldsFrom, behind, thirdAt};
 ghost use Rattle.line.specs.Tests.{isPair, passes};
-ghost use Rattle.line.specs.Block.{BlockAt};
-ghost use Rattle.line.specs.Line.{fieldValue, noNumber, sizeOf, memoryOf, drawOf, nameOf, valuesOf, badForm, badName, badValues, tooMany, refusal, storedAt};
+ghost use Rattle.line.specs.Block.{valuesFrom, BlockAt};
+ghost use Rattle.line.specs.Line.{fieldValue, noNumber, sizeOf, memoryOf, drawOf, nameOf, valuesOf, badForm, badName, tooMany, refusal, storedAt};
 use text::Number;
 
 // The words of a `memory` line: 0 for any other line.
@@ -53,17 +55,22 @@ pub fn value_count(line: &[u8]) -> u64
     count(line, third_at(line))
 }
 
-// The refusal of an `axis` line after so many axes, where its name came before or not; 0 where it is good.
+// The refusal of an `axis` line after so many axes, where its name came before or not; 0 where it is good. Its first 64 values are read once.
 pub fn axis_refusal(line: &[u8], came: bool, axes: u64) -> u32
     ensures { λ r. ⌜ r ≡ refusal (λ _. came) axes (fieldsOf (now (line .entry))) ⌝ }
 {
-    if bad_form(line) {
+    let values = third_at(line);
+    let name = name_of(line);
+    let most = greatest(name);
+    let b = block_at(line, values, most);
+    let behind = b.behind;
+    if bad_form(line, b.bad | any_field(line, behind, Test::NoNumber)) {
         return 20;
     }
-    if bad_name(line, came) {
+    if bad_name(name, came) {
         return 21;
     }
-    if bad_values(line) {
+    if bad_values(line, values, most, b) {
         return 22;
     }
     if too_many(line, axes) {
@@ -128,33 +135,41 @@ fn behind(line: &[u8], p: usize) -> usize
     text::part_end(line, p, 9) + 1
 }
 
-// 20: another form, an empty name, a value that is no number.
-fn bad_form(line: &[u8]) -> bool
+// 20: another form, an empty name, a value that is no number, as told.
+fn bad_form(line: &[u8], bad: bool) -> bool
+    requires { ⌜ bad ≡ any noNumber (drop 2 (fieldsOf (now line))) ⌝ }
     ensures { λ r. ⌜ r ≡ badForm (fieldsOf (now (line .entry))) ⌝ }
 {
-    let values = third_at(line);
-    if line.len() < values {
+    if line.len() < third_at(line) {
         return true;
     }
     let other = !text::same(text::part(line, 0, 9), b"axis");
     let empty = second(line).len() == 0;
-    other | empty | any_field(line, values, Test::NoNumber)
+    other | empty | bad
 }
 
 // 21: the name is unknown or came before.
-fn bad_name(line: &[u8], came: bool) -> bool
-    ensures { λ r. ⌜ r ≡ badName (λ _. came) (nameOf (fieldsOf (now (line .entry)))) ⌝ }
+fn bad_name(name: u64, came: bool) -> bool
+    ensures { λ r. ⌜ r ≡ badName (λ _. came) name ⌝ }
 {
-    (14 <= name_of(line)) | came
+    (14 <= name) | came
 }
 
-// 22: a value is too large for its name, or stands twice on its axis.
-fn bad_values(line: &[u8]) -> bool
-    ensures { λ r. ⌜ r ≡ badValues (nameOf (fieldsOf (now (line .entry)))) (valuesOf (fieldsOf (now (line .entry)))) ⌝ }
+// 22: a value from a place on is above this one, or stands twice, where the first block of them is known.
+fn bad_values(line: &[u8], from: usize, most: u64, b: Block) -> bool
+    requires { ⌜ BlockAt (now line) from most b ⌝ }
+    ensures { λ r. ⌜ r ≡ (any (leb (most + 1)) (valuesFrom (now (line .entry)) from) || anyPair eqb (valuesFrom (now (line .entry)) from)) ⌝ }
 {
-    let values = third_at(line);
-    let most = greatest(name_of(line));
-    any_field(line, values, Test::Above(most)) | any_twice(line, values)
+    let values = b.values;
+    let count = b.count;
+    let behind = b.behind;
+    if b.above | any_same(&values[..count]) {
+        return true;
+    }
+    if any_field(line, behind, Test::Above(most)) | any_among(line, behind, &values[..count]) {
+        return true;
+    }
+    any_twice(line, behind)
 }
 
 // 23: more than 8 axes, or more than 64 values on one.
@@ -214,7 +229,7 @@ fn any_twice(line: &[u8], from: usize) -> bool
 {
     let mut p = from;
     while p <= line.len() {
-        let b = block_at(line, p);
+        let b = block_at(line, p, 0);
         let values = b.values;
         let count = b.count;
         p = b.behind;
@@ -228,23 +243,31 @@ fn any_twice(line: &[u8], from: usize) -> bool
     false
 }
 
-// Values of a line, read once: so many of them, and the place behind them.
+// Values of a line, read once: so many of them, the place behind them, is some field no number, and is some value above a given one?
 struct Block {
     values: [u64; 64],
     count: usize,
     behind: usize,
+    bad: bool,
+    above: bool,
 }
 
-// The values from a place on, at most 64.
-fn block_at(line: &[u8], from: usize) -> Block
-    ensures { λ r. ⌜ BlockAt (now (line .entry)) from r ⌝ }
+// The values from a place on, at most 64, against the greatest that is good.
+fn block_at(line: &[u8], from: usize, most: u64) -> Block
+    ensures { λ r. ⌜ BlockAt (now (line .entry)) from most r ⌝ }
 {
     let mut values = [0; 64];
     let mut count = 0;
     let mut p = from;
+    let mut bad = false;
+    let mut above = false;
     while (count < 64) & (p <= line.len()) {
         let end = text::part_end(line, p, 9);
-        values[count] = field_value(&line[p..end]);
+        let number = text::parse(&line[p..end]);
+        let v = value_of(number);
+        bad = bad | is_bad(number);
+        above = above | (most < v);
+        values[count] = v;
         count += 1;
         p = end + 1;
     }
@@ -252,6 +275,8 @@ fn block_at(line: &[u8], from: usize) -> Block
         values,
         count,
         behind: p,
+        bad,
+        above,
     }
 }
 
@@ -333,17 +358,31 @@ fn index_of(list: &[u8], word: &[u8]) -> u64
 fn field_value(field: &[u8]) -> u64
     ensures { λ r. ⌜ r ≡ fieldValue (now (field .entry)) ⌝ }
 {
-    match text::parse(field) {
-        Number::Value(v) => v,
-        Number::Bad => 0,
-    }
+    value_of(text::parse(field))
 }
 
 // Is a field no number?
 fn no_number(field: &[u8]) -> bool
     ensures { λ r. ⌜ r ≡ noNumber (now (field .entry)) ⌝ }
 {
-    match text::parse(field) {
+    is_bad(text::parse(field))
+}
+
+// The value of what was read: 0 where it is no number.
+fn value_of(number: Number) -> u64
+    ensures { λ r. ⌜ r ≡ valueOf number ⌝ }
+{
+    match number {
+        Number::Value(v) => v,
+        Number::Bad => 0,
+    }
+}
+
+// Is what was read no number?
+fn is_bad(number: Number) -> bool
+    ensures { λ r. ⌜ r ≡ isBad number ⌝ }
+{
+    match number {
         Number::Value(_) => false,
         Number::Bad => true,
     }

@@ -28,23 +28,18 @@ same-requires c κs = search needs
 second-requires : tie.Need-second-requires
 second-requires c κs = search needs
 
-any-field-requires : tie.Need-any-field-requires
-any-field-requires c κs = search needs
-
 returns-2 : tie.Need-returns-2
 returns-2 c =
-    let t = c .before .before .before .before .before in
+    let t = c .before .before .before .before in
     let p = t .before in
     let line = now (p .before .before .args .line) in
     let some = sym (fieldsFrom-thirdAt line) ∙ rw (p .third-at .ensures) at (fieldsFrom-cons line (p .third-at .result) _ refl (t .if1 .left)) in
     rw (
-      c .any-field .ensures,
-      p .third-at .ensures,
-      fieldsFrom-thirdAt line,
-      ← same-empty (now (c .before .second .result)),
-      c .before .second .ensures,
-      c .before .before .same .ensures,
-      c .before .before .before .before .part .ensures,
+      p .before .before .pre,
+      ← same-empty (now (c .second .result)),
+      c .second .ensures,
+      c .before .same .ensures,
+      c .before .before .before .part .ensures,
       first-field line,
     )
     (sym (badForm-some (fieldsOf line) _ _ some))
@@ -59,5 +54,4 @@ bad-form-spec =
     slice-aggregate-same
     same-requires
     second-requires
-    any-field-requires
     returns-2)

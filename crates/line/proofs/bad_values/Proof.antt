@@ -1,42 +1,68 @@
--- `line::bad_values` meets its contract.
-use mathlib.Core.Path.{ap, _∙_}
+-- `line::bad_values` meets its contract: in the block, then behind it.
+use mathlib.Core.Path.{sym, _∙_}
+use lib.Seq.{length-take-le}
+use Rattle.line.proofs.BlockLaws.{badFrom-in, badFrom-behind, badFrom-next}
 use borrow.Author.Needs.{needs}
-use lib.ListN.{drop}
-use denote.Ref.{now}
-use Rattle.text.specs.Text.{fieldsOf}
-use Rattle.points.specs.Axes.{limit}
-use Rattle.line.specs.Line.{valuesOf}
-use Rattle.line.proofs.FieldsLaws.{fieldsFrom-thirdAt}
-use Rattle.line.proofs.TestsLaws.{any-above}
 use Rattle.line.proofs.bad_values.Statement.{statement}
 use Rattle.line.proofs.bad_values.Tie as tie
 
-third-at-requires : tie.Need-third-at-requires
-third-at-requires c κs = search needs
+array-share-prefix-values : tie.Need-array-share-prefix-values
+array-share-prefix-values c = search needs
 
-name-of-requires : tie.Need-name-of-requires
-name-of-requires c κs = search needs
+slice-aggregate-any-same : tie.Need-slice-aggregate-any-same
+slice-aggregate-any-same c = sym (length-take-le _ _ (c .before .before .before .pre .room))
 
-greatest-requires : tie.Need-greatest-requires
-greatest-requires c κs = search needs
+any-same-requires : tie.Need-any-same-requires
+any-same-requires c κs = search needs
+
+returns : tie.Need-returns
+returns c =
+    let p = c .before .before .before .before .before .before in
+    sym (badFrom-in (p .pre) (rw (c .before .before .any-same .ensures) at (c .if1 .taken)))
 
 any-field-requires : tie.Need-any-field-requires
 any-field-requires c κs = search needs
 
+array-share-prefix-values-2 : tie.Need-array-share-prefix-values-2
+array-share-prefix-values-2 c = search needs
+
+slice-aggregate-any-among : tie.Need-slice-aggregate-any-among
+slice-aggregate-any-among c = sym (length-take-le _ _ (c .before .before .before .before .before .before .before .before .pre .room))
+
+any-among-requires : tie.Need-any-among-requires
+any-among-requires c κs = search needs
+
+returns-2 : tie.Need-returns-2
+returns-2 c =
+    let f = c .before .before .before in
+    let s = f .before in
+    let p = s .before .before .before .before .before .before in
+    sym (badFrom-behind (p .pre) (rw (s .before .before .any-same .ensures) at (s .if1 .left)) (rw (f .any-field .ensures, c .before .any-among .ensures) at (c .if2 .taken)))
+
 any-twice-requires : tie.Need-any-twice-requires
 any-twice-requires c κs = search needs
 
-returns : tie.Need-returns
-unfolding valuesOf
-returns c =
-    let g = c .before .before in
-    let n = g .before in
-    let p = n .before in
-    let line = now (p .before .before .args .line) in
-    let most = g .greatest .ensures ∙ ap limit (n .name-of .ensures) in
-    rw (c .any-twice .ensures, c .before .any-field .ensures, p .third-at .ensures, fieldsFrom-thirdAt line, ← any-above _ _ (drop 2 (fieldsOf line)) most)
+returns-3 : tie.Need-returns-3
+returns-3 c =
+    let e = c .before in
+    let f = e .before .before .before in
+    let s = f .before in
+    let p = s .before .before .before .before .before .before in
+    c .any-twice .ensures
+    ∙ sym (badFrom-next (p .pre) (rw (s .before .before .any-same .ensures) at (s .if1 .left)) (rw (f .any-field .ensures, e .before .any-among .ensures) at (e .if2 .left)))
 
 pub bad-values-spec : {M : Type 1} → statement M
 bad-values-spec =
     tie.close
-    (tie.spec third-at-requires name-of-requires greatest-requires any-field-requires any-twice-requires returns)
+    (tie.spec
+    array-share-prefix-values
+    slice-aggregate-any-same
+    any-same-requires
+    returns
+    any-field-requires
+    array-share-prefix-values-2
+    slice-aggregate-any-among
+    any-among-requires
+    returns-2
+    any-twice-requires
+    returns-3)

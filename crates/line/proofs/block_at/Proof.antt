@@ -10,13 +10,13 @@ use Rattle.line.proofs.block_at.Statement.{statement}
 use Rattle.line.proofs.block_at.Tie as tie
 
 abbrev Inv-loop : tie.InvT-loop
-Inv-loop line from values₀ count₀ p₀ values count p = Filled line from values count p
+Inv-loop line from most values₀ count₀ p₀ bad₀ above₀ values count p bad above = Filled line from most values count p bad above
 
 abbrev μ-loop : tie.MeasureT-loop
-μ-loop line from values₀ count₀ p₀ values count p = length line + 1 - p
+μ-loop line from most values₀ count₀ p₀ bad₀ above₀ values count p bad above = length line + 1 - p
 
 loop-holds : tie.Need-loop-holds Inv-loop μ-loop
-loop-holds c = record { size = refl; room = omega arith; split = refl; passed = omega arith }
+loop-holds c = record { size = refl; room = omega arith; split = refl; passed = omega arith; told = refl; over = refl }
 
 tested : (c : tie.In-loop Inv-loop μ-loop) → (c .before .loop .count < 64) × (c .before .loop .p ≤ length (c .before .before .before .args .line .now))
 tested c = fill-test (c .before .loop .count) (c .before .loop .p) (length (c .before .before .before .args .line .now)) (c .loop-test .taken)
@@ -24,40 +24,47 @@ tested c = fill-test (c .before .loop .count) (c .before .loop .p) (length (c .b
 part-end-requires : tie.Need-part-end-requires Inv-loop μ-loop
 part-end-requires c κs = search needs
 
-sub-field-value : tie.Need-sub-field-value Inv-loop μ-loop
-sub-field-value c = omega arith
+sub-parse : tie.Need-sub-parse Inv-loop μ-loop
+sub-parse c = omega arith
 
-part-field-value-start : tie.Need-part-field-value-start Inv-loop μ-loop
-part-field-value-start c = omega arith
+part-parse-start : tie.Need-part-parse-start Inv-loop μ-loop
+part-parse-start c = omega arith
 
-part-field-value-end : tie.Need-part-field-value-end Inv-loop μ-loop
-part-field-value-end c = part-end-le 9 _ _ _ (c .part-end .ensures) (tested (c .before) .1)
+part-parse-end : tie.Need-part-parse-end Inv-loop μ-loop
+part-parse-end c = part-end-le 9 _ _ _ (c .part-end .ensures) (tested (c .before) .1)
 
-field-value-requires : tie.Need-field-value-requires Inv-loop μ-loop
-field-value-requires c κs = search needs
+parse-requires : tie.Need-parse-requires Inv-loop μ-loop
+parse-requires c κs = search needs
+
+value-of-requires : tie.Need-value-of-requires Inv-loop μ-loop
+value-of-requires c κs = search needs
+
+is-bad-requires : tie.Need-is-bad-requires Inv-loop μ-loop
+is-bad-requires c κs = search needs
 
 mul-values : tie.Need-mul-values Inv-loop μ-loop
-mul-values c = omega (arith, tested (c .before .before .before))
+mul-values c = omega (arith, tested (c .before .before .before .before .before))
 
 array-write-values : tie.Need-array-write-values Inv-loop μ-loop
-array-write-values c = tested (c .before .before .before) .0
+array-write-values c = tested (c .before .before .before .before .before) .0
 
 add-count : tie.Need-add-count Inv-loop μ-loop
-add-count c = omega (arith, tested (c .before .before .before))
+add-count c = omega (arith, tested (c .before .before .before .before .before))
 
 add-p : tie.Need-add-p Inv-loop μ-loop
 add-p c =
-    let e = c .before .before in
+    let e = c .before .before .before .before in
     omega (arith, part-end-le 9 _ _ _ (e .part-end .ensures) (tested (e .before) .1))
 
 loop-less : tie.Need-loop-less Inv-loop μ-loop
-loop-less c = omega (arith, tested (c .before .before .before))
+loop-less c = omega (arith, tested (c .before .before .before .before .before))
 
 loop-again : tie.Need-loop-again Inv-loop μ-loop
 loop-again c =
-    let e = c .before .before in
+    let n = c .before .before in
+    let e = n .before .before in
     let t = tested (e .before) in
-    filled-next (e .before .before .loop .inv) _ _ (e .part-end .ensures) (t .1) (c .field-value .ensures) (t .0)
+    filled-next (e .before .before .loop .inv) _ _ (n .parse .result) _ (e .part-end .ensures) (t .1) (n .parse .ensures) (c .before .value-of .ensures) (c .is-bad .ensures) (t .0)
 
 returns : tie.Need-returns Inv-loop μ-loop
 returns c = filled-end (c .before .loop .inv) (c .loop-test .left)
@@ -70,10 +77,12 @@ block-at-spec =
     μ-loop
     loop-holds
     part-end-requires
-    sub-field-value
-    part-field-value-start
-    part-field-value-end
-    field-value-requires
+    sub-parse
+    part-parse-start
+    part-parse-end
+    parse-requires
+    value-of-requires
+    is-bad-requires
     mul-values
     array-write-values
     add-count
