@@ -5,7 +5,7 @@ use mathlib.Core.List.{List, [], _∷_, _++_, append-assoc, append-nil, map}
 use Prim.Native.Nat.{ℕ, _+_, _-_, _<_, _≤_}
 use native.Mathlib.Numerals.{add-one}
 use native.Mathlib.Omega.{arith}
-use borrow.Author.Tests.{ltb-true, ltb-false, leb-true, leb-false}
+use borrow.Author.Tests.{ltb-true, ltb-false, leb-true, leb-false, lt-ltb, le-ltb}
 use lib.Dec.{eqb, ltb, leb}
 use lib.ListN.{length, getD, set, take, drop, length-set, length-drop, take-append-drop, drop-of-length-le}
 use lib.Seq.{drop-cons, take-suc-set, length-take-le, take-all, take-at, drop-at}
@@ -18,7 +18,7 @@ use Rattle.text.specs.declared.Number.{Number}
 use Rattle.points.specs.Axes.{limit}
 use Rattle.line.specs.declared.Block.{Block}
 use Rattle.line.specs.declared.Test.the-variants.{Above}
-use Rattle.line.specs.Line.{fieldValue, noNumber, nameOf, valuesOf, badValues}
+use Rattle.line.specs.Line.{fieldValue, noNumber, nameOf, valuesOf, badValues, tooMany}
 use Rattle.line.specs.Tests.{passes}
 use Rattle.line.specs.Fields.{fieldsFrom, thirdAt}
 use Rattle.line.specs.Block.{valuesFrom, BlockAt}
@@ -168,3 +168,24 @@ pub badFrom-thirdAt : (line : List ℕ) (from name most : ℕ) → from ≡ thir
     → badFrom line from most ≡ badValues (nameOf (fieldsOf line)) (valuesOf (fieldsOf line))
 unfolding valuesOf
 badFrom-thirdAt line from name most at named greatest = rw (at, greatest, named, fieldsFrom-thirdAt line)
+
+-- More than 64 values: some are left behind the first block
+
+module _ {line : List ℕ} {from most : ℕ} {b : Block} (at : BlockAt line from most b) where
+  block-left : ltb 64 (length (valuesFrom line from)) ≡ leb (b .behind) (length line)
+  block-left = go _ refl
+    where
+      left : length (valuesFrom line (b .behind)) ≡ length (valuesFrom line from) - 64
+      left = ap length (at .left) ∙ length-drop 64 (valuesFrom line from)
+
+      go : (t : Bool) → leb (b .behind) (length line) ≡ t → ltb 64 (length (valuesFrom line from)) ≡ t
+      go true t =
+          let some = ap (λ (fs : List (List ℕ)). length (map fieldValue fs)) (fieldsFrom-cons line (b .behind) _ refl (leb-true _ _ t)) in
+          lt-ltb 64 (length (valuesFrom line from)) (omega (arith, left, some))
+      go false t =
+          let none = ap (λ (fs : List (List ℕ)). length (map fieldValue fs)) (fieldsFrom-past line (b .behind) (leb-false _ _ t)) in
+          le-ltb 64 (length (valuesFrom line from)) (omega (arith, left, none))
+
+  pub tooMany-thirdAt : (axes : ℕ) → from ≡ thirdAt line → tooMany axes (valuesOf (fieldsOf line)) ≡ (leb 8 axes || leb (b .behind) (length line))
+  unfolding valuesOf
+  tooMany-thirdAt axes e = rw (← fieldsFrom-thirdAt line, ← e) (ap (λ (t : Bool). leb 8 axes || t) block-left)

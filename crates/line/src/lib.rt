@@ -12,7 +12,7 @@ ghost use Rattle.points.specs.Axes.{limit};
 ghost use Rattle.line.specs.Fields.{fieldsFrom, behind, thirdAt};
 ghost use Rattle.line.specs.Tests.{isPair, passes};
 ghost use Rattle.line.specs.Block.{valuesFrom, BlockAt};
-ghost use Rattle.line.specs.Line.{fieldValue, noNumber, sizeOf, memoryOf, drawOf, nameOf, valuesOf, badForm, badName, tooMany, refusal, storedAt};
+ghost use Rattle.line.specs.Line.{fieldValue, noNumber, sizeOf, memoryOf, drawOf, nameOf, valuesOf, badForm, badName, refusal, storedAt};
 use text::Number;
 
 // The words of a `memory` line: 0 for any other line.
@@ -73,7 +73,7 @@ pub fn axis_refusal(line: &[u8], came: bool, axes: u64) -> u32
     if bad_values(line, values, most, b) {
         return 22;
     }
-    if too_many(line, axes) {
+    if too_many(axes, behind <= line.len()) {
         return 23;
     }
     0
@@ -172,11 +172,11 @@ fn bad_values(line: &[u8], from: usize, most: u64, b: Block) -> bool
     any_twice(line, behind)
 }
 
-// 23: more than 8 axes, or more than 64 values on one.
-fn too_many(line: &[u8], axes: u64) -> bool
-    ensures { λ r. ⌜ r ≡ tooMany axes (valuesOf (fieldsOf (now (line .entry)))) ⌝ }
+// 23: more than 8 axes, or more than 64 values on one: some are left behind the first block.
+fn too_many(axes: u64, left: bool) -> bool
+    ensures { λ r. ⌜ r ≡ (leb 8 axes || left) ⌝ }
 {
-    (8 <= axes) | (64 < value_count(line))
+    (8 <= axes) | left
 }
 
 // The greatest value of a name: one less than its limit.

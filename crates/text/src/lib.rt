@@ -93,6 +93,10 @@ fn push(v: u64, c: u8) -> Number
         return Number::Bad;
     }
     let d = (c - 48) as u64;
+    // below a tenth of 2^64 - 1 any digit fits: no division
+    if v < 1844674407370955161 {
+        return Number::Value(v * 10 + d);
+    }
     if (18446744073709551615 - d) / 10 < v {
         return Number::Bad;
     }

@@ -3,9 +3,9 @@ use mathlib.Core.Path.{_≡_, sym, _∙_}
 use mathlib.Core.Bool.{false}
 use denote.Ref.{now}
 use Rattle.text.specs.Text.{fieldsOf}
-use Rattle.line.specs.Line.{nameOf, valuesOf, badForm, badName, badValues, refusal}
+use Rattle.line.specs.Line.{nameOf, valuesOf, badForm, badName, badValues, tooMany, refusal}
 use Rattle.line.proofs.FieldsLaws.{fieldsFrom-thirdAt}
-use Rattle.line.proofs.BlockLaws.{badFrom-thirdAt}
+use Rattle.line.proofs.BlockLaws.{badFrom-thirdAt, tooMany-thirdAt}
 use borrow.Author.Needs.{needs}
 use Rattle.line.proofs.axis_refusal.Statement.{statement}
 use Rattle.line.proofs.axis_refusal.Tie as tie
@@ -56,6 +56,13 @@ past-22 : (c : tie.Else3) → let f = fieldsOf (now (c .before .before .before .
     badValues (nameOf f) (valuesOf f) ≡ false
 past-22 c = values-of (c .before) ∙ c .if3 .left
 
+many : (c : tie.After-too-many) → let a = c .before .before .before .before .before .before .before .before .before .before .before .before .before .before .args in
+    tooMany (a .axes) (valuesOf (fieldsOf (now (a .line)))) ≡ c .too-many .result
+many c =
+    let b = c .before .before .before .before .before .before .before .before .before in
+    let t = b .before .before .before in
+    tooMany-thirdAt (b .block-at .ensures) (t .before .before .args .axes) (t .third-at .ensures) ∙ sym (c .too-many .ensures)
+
 returns : tie.Need-returns
 unfolding refusal
 returns c = rw (sym (c .before .bad-form .ensures) ∙ c .if1 .taken)
@@ -84,14 +91,14 @@ unfolding refusal
 returns-4 c =
     let v = c .before .before in
     let n = v .before .before in
-    rw (past-20 (n .before .before), past-21 n, past-22 v, sym (c .before .too-many .ensures) ∙ c .if4 .taken)
+    rw (past-20 (n .before .before), past-21 n, past-22 v, many (c .before) ∙ c .if4 .taken)
 
 returns-5 : tie.Need-returns-5
 unfolding refusal
 returns-5 c =
     let v = c .before .before in
     let n = v .before .before in
-    rw (past-20 (n .before .before), past-21 n, past-22 v, sym (c .before .too-many .ensures) ∙ c .if4 .left)
+    rw (past-20 (n .before .before), past-21 n, past-22 v, many (c .before) ∙ c .if4 .left)
 
 pub axis-refusal-spec : {M : Type 1} → statement M
 axis-refusal-spec =
