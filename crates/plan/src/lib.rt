@@ -164,12 +164,14 @@ fn read_axes(
     let mut c = next_line(text, from, number);
     while c.end < text.len() {
         let at = c.at;
-        let line = text::part(text, at, 10);
-        let refusal = refusal_of(line, held);
+        let end = c.end;
+        let line = &text[at..end];
+        let name = line::name_of(line);
+        let refusal = refusal_of(line, name, held);
         if refusal != 0 {
             return refused(refusal, c.line);
         }
-        held = store_axis(line, table, held);
+        held = store_axis(line, name, table, held);
         c = next_line(text, c.end + 1, c.line + 1);
     }
     if c.at < text.len() {
@@ -178,12 +180,12 @@ fn read_axes(
     accepted(words, draw, held.axes, held.points)
 }
 
-// The refusal of an axis line, or 0.
-fn refusal_of(line: &[u8], held: Held) -> u32
+// The refusal of an axis line of this name, or 0.
+fn refusal_of(line: &[u8], name: u64, held: Held) -> u32
+    requires { ⌜ name ≡ nameOf (fieldsOf (now line)) ⌝ }
     ensures { λ r. ⌜ r ≡ heldRefusal held (fieldsOf (now (line .entry))) ⌝ }
 {
-    let came = is_named(held, line::name_of(line));
-    line::axis_refusal(line, came, held.axes)
+    line::axis_refusal(line, is_named(held, name), held.axes)
 }
 
 // Did the name come?
@@ -198,12 +200,11 @@ fn is_named(held: Held, name: u64) -> bool
 }
 
 // Stores the axis of a good line: its name, its length and its values.
-fn store_axis(line: &[u8], table: &mut [u64], held: Held) -> Held
-    requires { ⌜ (528 ≤ length (now table)) × HasRoom held (nameOf (fieldsOf (now line))) (length (valuesOf (fieldsOf (now line)))) ⌝ }
+fn store_axis(line: &[u8], name: u64, table: &mut [u64], held: Held) -> Held
+    requires { ⌜ (528 ≤ length (now table)) × (name ≡ nameOf (fieldsOf (now line))) × HasRoom held name (length (valuesOf (fieldsOf (now line)))) ⌝ }
     ensures after { λ r. ⌜ r ≡ heldAfter held (nameOf (fieldsOf (now (line .entry)))) (length (valuesOf (fieldsOf (now (line .entry))))) ⌝ }
     ensures entered { λ r. ⌜ now (table .exit) ≡ storedAt (held .used) (entryOf (fieldsOf (now (line .entry)))) (now (table .entry)) ⌝ }
 {
-    let name = line::name_of(line);
     let count = line::value_count(line);
     let used = held.used;
     table[used] = name;

@@ -4,6 +4,7 @@ use Prim.Native.Nat.{_-_}
 use native.Mathlib.Omega.{arith}
 use borrow.Author.Needs.{needs}
 use lib.ListN.{length}
+use Rattle.text.proofs.TextLaws.{part-take}
 use Rattle.plan.specs.Reading.{axisLines}
 use Rattle.plan.specs.Cursor.{linesFrom}
 use Rattle.plan.proofs.CursorLaws.{next-place}
@@ -24,43 +25,60 @@ next-line-requires c κs = c .before .before .pre .1
 loop-holds : tie.Need-loop-holds Inv-loop μ-loop
 loop-holds c = no-axes _ _ (c .before .before .before .pre .0) (c .next-line .ensures)
 
+sub-line : tie.Need-sub-line Inv-loop μ-loop
+sub-line c = omega (arith, c .before .before .loop .inv .next .reached .ends)
+
+part-line-start : tie.Need-part-line-start Inv-loop μ-loop
+part-line-start c = omega (arith, c .before .before .loop .inv .next .reached .ends)
+
+part-line-end : tie.Need-part-line-end Inv-loop μ-loop
+part-line-end c = omega (arith, c .if1 .taken)
+
+refusal-of-requires : tie.Need-refusal-of-requires Inv-loop μ-loop
+refusal-of-requires c κs = c .name-of .ensures
+
 same-length : tie.Need-same-length Inv-loop μ-loop
-same-length c = same-table (c .before .before .before .before .before .before .loop .inv)
+same-length c = same-table (c .before .before .before .before .before .before .before .loop .inv)
 
 returns : tie.Need-returns Inv-loop μ-loop
 returns c =
     let f = c .before .before in
-    turn-refused (f .before .before .before .before .loop .inv) (f .before .before .if1 .taken) _ (f .before .part .ensures) (f .refusal-of .ensures) (c .before .if2 .taken)
+    let i = f .before .before .before .before .before .loop .inv in
+    turn-refused i (f .before .before .before .if1 .taken) _ (part-take 10 _ _ _ (i .next .reached .ends)) (f .refusal-of .ensures) (c .before .if2 .taken)
     (c .refused .ensures)
 
 store-axis-requires : tie.Need-store-axis-requires Inv-loop μ-loop
 store-axis-requires c κs =
     let f = c .before .before in
-    let i = f .before .before .before .before .loop .inv in
-    (omega (arith, same-table i, i .room), turn-room i (f .before .before .if1 .taken) _ (f .before .part .ensures) (f .refusal-of .ensures) (c .before .if2 .left))
+    let i = f .before .before .before .before .before .loop .inv in (
+      omega (arith, same-table i, i .room),
+      f .before .name-of .ensures,
+      rw (f .before .name-of .ensures) (turn-room i (f .before .before .before .if1 .taken) _ (part-take 10 _ _ _ (i .next .reached .ends)) (f .refusal-of .ensures) (c .before .if2 .left)),
+    )
 
 add-next-line-2 : tie.Need-add-next-line-2 Inv-loop μ-loop
 add-next-line-2 c =
     let f = c .before .before .before .before .before .before .before in
-    let p = next-place (f .before .before .before .before .loop .inv .next) (f .before .before .if1 .taken) in
-    omega (arith, p .within, p .numbered)
+    let p = next-place (f .before .before .before .before .before .loop .inv .next) (f .before .before .before .if1 .taken) in
+    omega (arith, p .within, p .numbered, f .before .before .before .before .before .before .before .before .before .good)
 
 next-line-requires-2 : tie.Need-next-line-requires-2 Inv-loop μ-loop
 next-line-requires-2 c κs =
     let f = c .before .before .before .before .before .before .before in
-    next-place (f .before .before .before .before .loop .inv .next) (f .before .before .if1 .taken)
+    next-place (f .before .before .before .before .before .loop .inv .next) (f .before .before .before .if1 .taken)
 
 loop-less : tie.Need-loop-less Inv-loop μ-loop
 loop-less c =
     let f = c .before .before .before .before .before .before .before .before in
-    let r = f .before .before .before .before .loop .inv .next .reached in
-    omega (arith, r .ends, f .before .before .if1 .taken, c .next-line2 .ensures .reached .onwards)
+    let r = f .before .before .before .before .before .loop .inv .next .reached in
+    omega (arith, r .ends, f .before .before .before .if1 .taken, c .next-line2 .ensures .reached .onwards)
 
 loop-again : tie.Need-loop-again Inv-loop μ-loop
 loop-again c =
     let e = c .before .before .before .before .before in
     let f = e .before .before .before in
-    turn-stored (f .before .before .before .before .loop .inv) (f .before .before .if1 .taken) _ (f .before .part .ensures) (f .refusal-of .ensures) (e .before .before .if2 .left)
+    let i = f .before .before .before .before .before .loop .inv in
+    turn-stored i (f .before .before .before .if1 .taken) _ (part-take 10 _ _ _ (i .next .reached .ends)) (f .refusal-of .ensures) (e .before .before .if2 .left)
     (e .store-axis .ensures .1) (e .store-axis .ensures .0) (c .next-line2 .ensures)
 
 same-length-2 : tie.Need-same-length-2 Inv-loop μ-loop
@@ -87,8 +105,11 @@ read-axes-spec =
     μ-loop
     next-line-requires
     loop-holds
+    sub-line
+    part-line-start
+    part-line-end
     (λ c κs. search needs)
-    (λ c κs. search needs)
+    refusal-of-requires
     (λ c κs. search needs)
     same-length
     returns

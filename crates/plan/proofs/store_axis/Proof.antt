@@ -17,18 +17,17 @@ returns : tie.Need-returns
 returns c =
     let v = c .before .before .before in
     let n = v .before .before in
-    let t = n .before .before .before .before in (
-      c .with-axis .ensures ∙ rw (n .before .name-of .ensures, n .value-count .ensures),
+    let t = n .before .before .before in (
+      c .with-axis .ensures ∙ rw (n .value-count .ensures, ← t .pre .1),
       v .store-values .ensures
           ∙ storedAt-two (t .args .table .now) (t .args .held .used) _ _ _
-          ∙ rw (n .before .name-of .ensures, n .value-count .ensures),
+          ∙ rw (n .value-count .ensures, ← t .pre .1),
     )
 
 pub store-axis-spec : {M : Type 1} → statement M
 store-axis-spec =
     tie.close
     (tie.spec
-    (λ c κs. search needs)
     (λ c κs. search needs)
     (λ c. search needs)
     (λ c. search needs)
