@@ -1,6 +1,6 @@
 -- Laws of `specs/Block.antt`, and searches among numbers held. No contract cites this file. Assumes nothing.
 use mathlib.Core.Path.{_≡_, refl, sym, ap, _∙_}
-use mathlib.Core.Bool.{Bool, true, false, true≢false, _&&_, _||_, or-assoc, or-false}
+use mathlib.Core.Bool.{Bool, true, false, true≢false, _&&_, _||_, or-assoc, or-false, and-eq-true-iff}
 use mathlib.Core.List.{List, [], _∷_, _++_, append-assoc, append-nil, map}
 use Prim.Native.Nat.{ℕ, _+_, _-_, _<_, _≤_}
 use native.Mathlib.Numerals.{add-one}
@@ -10,7 +10,7 @@ use lib.Dec.{eqb, ltb, leb}
 use lib.ListN.{length, getD, set, take, drop, length-set, length-drop, take-append-drop, drop-of-length-le}
 use lib.Seq.{drop-cons, take-suc-set, length-take-le, take-all, take-at, drop-at}
 use Rattle.lists.specs.Search.{any, anyPair}
-use Rattle.lists.proofs.TestLaws.{and-eq-true, or-swap, eqb-comm}
+use Rattle.lists.proofs.TestLaws.{or-swap, eqb-comm}
 use Rattle.lists.proofs.SearchLaws.{anyPair-append}
 use Rattle.text.specs.Text.{upTo, fieldsOf}
 use Rattle.text.specs.Number.{numberOf, valueOf, isBad}
@@ -63,7 +63,7 @@ pub record Filled (line : List ℕ) (from most : ℕ) (values : List ℕ) (count
 
 -- there is room, and the place is one of the line
 pub fill-test : (count p n : ℕ) → (ltb count 64 && leb p n) ≡ true → (count < 64) × (p ≤ n)
-fill-test count p n e = let t = and-eq-true (ltb count 64) (leb p n) e in (ltb-true _ _ (t .0), leb-true _ _ (t .1))
+fill-test count p n e = let t = and-eq-true-iff (ltb count 64) (leb p n) .0 e in (ltb-true _ _ (t .0), leb-true _ _ (t .1))
 
 module _ {line : List ℕ} {from most : ℕ} {values : List ℕ} {count p : ℕ} {bad above : Bool} (f : Filled line from most values count p bad above) where
   -- with e the end of the field at the place, and n what is read there
