@@ -5,10 +5,17 @@ use libc::STDERR_FILENO;
 use libc::STDIN_FILENO;
 use text::Number;
 
-// What the arguments ask for: the count of points only, or `count` points from `first` on; and which argument names the plan.
+// What is to be written: the listing, the count of points, or their experiments.
+pub enum Wanted {
+    Listing,
+    Points,
+    Experiments,
+}
+
+// What the arguments ask for, of `count` points from `first` on; and which argument names the plan.
 pub struct Asked {
     pub good: bool,
-    pub only_points: bool,
+    pub wanted: Wanted,
     pub plan: usize,
     pub first: u64,
     pub count: u64,
@@ -24,39 +31,52 @@ pub struct Got {
 pub fn arguments() -> Asked {
     let n = os::arg_count();
     if n == 2 {
-        return points_from(1, 0, u64::MAX);
+        return wish(Wanted::Listing, 1, 0, u64::MAX);
     }
-    if n == 3 && is_argument(1, b"--points") {
-        return Asked {
-            good: true,
-            only_points: true,
-            plan: 2,
-            first: 0,
-            count: 0,
-        };
+    if n == 3 {
+        return asked_whole();
     }
     if n == 4 {
-        return asked_part();
+        return asked_part(Wanted::Listing, 1, 2, 3);
     }
-    bad(
-        b"sweep: usage: sweep PLAN [FIRST COUNT], or sweep --points PLAN; PLAN may be - for standard input\n",
-    )
+    if n == 5 && is_argument(1, b"--experiments") {
+        return asked_part(Wanted::Experiments, 2, 3, 4);
+    }
+    bad_usage()
 }
 
-fn points_from(plan: usize, first: u64, count: u64) -> Asked {
+fn wish(wanted: Wanted, plan: usize, first: u64, count: u64) -> Asked {
     Asked {
         good: true,
-        only_points: false,
+        wanted,
         plan,
         first,
         count,
     }
 }
 
-fn asked_part() -> Asked {
-    match number_argument(2) {
-        Number::Value(first) => match number_argument(3) {
-            Number::Value(count) => points_from(1, first, count),
+// --points PLAN, or --experiments PLAN.
+fn asked_whole() -> Asked {
+    if is_argument(1, b"--points") {
+        return wish(Wanted::Points, 2, 0, 0);
+    }
+    if is_argument(1, b"--experiments") {
+        return wish(Wanted::Experiments, 2, 0, u64::MAX);
+    }
+    bad_usage()
+}
+
+fn bad_usage() -> Asked {
+    bad(
+        b"sweep: usage: sweep [--experiments] PLAN [FIRST COUNT], or sweep --points PLAN; PLAN may be - for standard input\n",
+    )
+}
+
+// With FIRST and COUNT as these arguments.
+fn asked_part(wanted: Wanted, plan: usize, from: usize, many: usize) -> Asked {
+    match number_argument(from) {
+        Number::Value(first) => match number_argument(many) {
+            Number::Value(count) => wish(wanted, plan, first, count),
             Number::Bad => bad(b"sweep: COUNT isn't a decimal number below 2^64\n"),
         },
         Number::Bad => bad(b"sweep: FIRST isn't a decimal number below 2^64\n"),
@@ -67,7 +87,7 @@ fn bad(line: &[u8]) -> Asked {
     io::write_all(STDERR_FILENO, line);
     Asked {
         good: false,
-        only_points: false,
+        wanted: Wanted::Listing,
         plan: 0,
         first: 0,
         count: 0,

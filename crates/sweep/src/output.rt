@@ -107,6 +107,16 @@ pub fn heading(first: u64) -> End {
     lines(&space[..n])
 }
 
+// The heading of experiments, where their start is asked for.
+pub fn names(first: u64) -> End {
+    if first != 0 {
+        return done();
+    }
+    lines(
+        b"point\tSADDR\tSPTCH\tDADDR\tDPTCH\tOFFSET\tWSTART\tWEND\tDYDX\tCOLOR0\tCOLOR1\tCONTROL\tPSIZE\tPMASK\tSEED\n",
+    )
+}
+
 // A first point that the plan does not have.
 pub fn no_point(first: u64, count: u64) -> End {
     io::write_all(STDERR_FILENO, b"sweep: refused, 24: point ");

@@ -1,8 +1,10 @@
 // A plan read and run, by the proved libraries.
 ghost use mathlib.Core.Path.{_≡_};
 ghost use Prim.Native.Nat.{_+_, _^_, _<_, min};
+use crate::experiments;
 use crate::input;
 use crate::input::Asked;
+use crate::input::Wanted;
 use crate::output;
 use crate::output::End;
 use crate::progress;
@@ -26,25 +28,31 @@ pub fn swept() -> End {
     listed(asked, &space[..n])
 }
 
-// A plan's listing, its count of points, or its refusal.
+// What is wanted of a plan, or its refusal.
 fn listed(asked: Asked, text: &[u8]) -> End {
     let mut space = [0u64; 528];
     let p = plan::read(text, &mut space);
     if p.answer != 0 {
         return output::refused(asked.first, p.answer as u64, p.line);
     }
-    if asked.only_points {
-        return output::points(p.points);
+    let wanted = asked.wanted;
+    match wanted {
+        Wanted::Listing => list(p, &space, asked.first, asked.count),
+        Wanted::Points => output::points(p.points),
+        Wanted::Experiments => experiments::list(p, &space, asked.first, asked.count),
     }
-    if asked.first >= p.points {
-        return output::no_point(asked.first, p.points);
+}
+
+// The heading, and the lines of `count` points from `first` on, or as many as there are.
+fn list(p: Plan, table: &[u64], first: u64, count: u64) -> End {
+    if first >= p.points {
+        return output::no_point(first, p.points);
     }
-    let count = least(asked.count, p.points - asked.first);
-    let end = output::heading(asked.first);
+    let end = output::heading(first);
     if end.status != 0 {
         return end;
     }
-    run_all(p, &space, asked.first, count)
+    run_all(p, table, first, least(count, p.points - first))
 }
 
 // The lines of `count` points from `first` on.
@@ -113,7 +121,7 @@ fn run_some(
     output::lines(&space[..n])
 }
 
-fn least(a: u64, b: u64) -> u64
+pub fn least(a: u64, b: u64) -> u64
     ensures { λ r. ⌜ r ≡ min a b ⌝ }
 {
     if a < b { a } else { b }
