@@ -3,7 +3,7 @@ ghost use mathlib.Core.Path.{_≡_};
 ghost use mathlib.Core.Bool.{cond};
 ghost use lib.ListN.{length};
 ghost use lib.Seq.{sets};
-ghost use Rattle.drawing.specs.Operation.{operationOf};
+ghost use Rattle.operation.specs.Operation.{operationOf};
 ghost use Rattle.drawing.specs.Draw.{outcome, drawn};
 ghost use Rattle.c_arrays.specs.Out.{isSet, answered, stored};
 ghost use Rattle.settings.specs.Settings.{settingsOf};
@@ -29,7 +29,7 @@ pub fn draw(
     if (out.len() < 7) | ((7 < operation) | c_arrays::bad_settings(settings)) {
         return 9;
     }
-    let op = drawing::operation_of(wide(operation));
+    let op = operation::operation_of(wide(operation));
     let s = c_arrays::settings_of(settings);
     let r = drawing::draw(memory, op, s, place, v != 0, budget);
     hand_out(

@@ -3,7 +3,7 @@ use mathlib.Core.Bool.{Bool, _||_}
 use mathlib.Core.List.{List, [], _∷_}
 use Prim.Native.Nat.{ℕ}
 use Rattle.pixt.specs.declared.PixtResult.{PixtResult}
-use Rattle.pixt.specs.declared.DravResult.{DravResult}
+use Rattle.drav.specs.declared.DravResult.{DravResult}
 use Rattle.c_arrays.specs.Out.{bitOf, short}
 use Rattle.c_arrays.specs.Settings.{badSettings}
 

@@ -4,9 +4,9 @@ ghost use mathlib.Core.Bool.{cond, _||_};
 ghost use lib.Dec.{ltb};
 ghost use lib.ListN.{length};
 ghost use lib.Seq.{sets};
-ghost use Rattle.pixt.specs.Lone.{placeOf, linearPixel, xySource, xyDestination};
+ghost use Rattle.lone.specs.Lone.{placeOf, linearPixel, xySource, xyDestination};
 ghost use Rattle.pixt.specs.Pixt.{drawnAt, lowBits, pixtTo, pixtFrom};
-ghost use Rattle.pixt.specs.Drav.{colorAt, dravOf};
+ghost use Rattle.drav.specs.Drav.{colorAt, dravOf};
 ghost use Rattle.c_arrays.specs.Out.{isSet, answered, stored};
 ghost use Rattle.c_arrays.specs.Settings.{badSettings};
 ghost use Rattle.settings.specs.Settings.{settingsOf};
@@ -124,7 +124,7 @@ pub fn drav(
         return 9;
     }
     let s = c_arrays::settings_of(settings);
-    let r = pixt::drav(memory, s, step, point, v != 0);
+    let r = drav::drav(memory, s, step, point, v != 0);
     hand_out(out, r.visited, r.v, r.request, r.point);
     r.answer
 }

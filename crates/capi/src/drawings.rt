@@ -2,7 +2,7 @@
 ghost use mathlib.Core.Path.{_≡_};
 ghost use mathlib.Core.Bool.{cond};
 ghost use lib.ListN.{length};
-ghost use Rattle.drawing.specs.Operation.{operationOf};
+ghost use Rattle.operation.specs.Operation.{operationOf};
 ghost use Rattle.drawing.specs.Draw.{outcome, drawn};
 ghost use Rattle.c_arrays.specs.Out.{isSet, answered, stored};
 ghost use Rattle.settings.specs.Settings.{settingsOf};

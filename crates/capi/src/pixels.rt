@@ -2,9 +2,9 @@
 ghost use mathlib.Core.Path.{_≡_};
 ghost use mathlib.Core.Bool.{cond};
 ghost use lib.ListN.{length};
-ghost use Rattle.pixt.specs.Lone.{placeOf, linearPixel, xySource, xyDestination};
+ghost use Rattle.lone.specs.Lone.{placeOf, linearPixel, xySource, xyDestination};
 ghost use Rattle.pixt.specs.Pixt.{drawnAt, lowBits, pixtTo, pixtFrom};
-ghost use Rattle.pixt.specs.Drav.{colorAt, dravOf};
+ghost use Rattle.drav.specs.Drav.{colorAt, dravOf};
 ghost use Rattle.c_arrays.specs.Out.{isSet, answered, stored};
 ghost use Rattle.settings.specs.Settings.{settingsOf};
 ghost use Rattle.c_pixt.specs.Pixt.{badPixel, pixtResults, dravResults};

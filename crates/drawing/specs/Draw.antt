@@ -5,18 +5,18 @@ use Prim.Native.Nat.{ℕ, _+_, _*_, _%_, _^_}
 use lib.Dec.{eqb}
 use lib.ListN.{length}
 use Rattle.pixel.specs.Control.{windowing}
-use Rattle.geometry.specs.Coordinate.{registerOf}
-use Rattle.geometry.specs.Window.{windowOf, common}
-use Rattle.geometry.specs.declared.Rectangle.{Rectangle}
-use Rattle.geometry.specs.declared.Clipped.{Clipped}
+use Rattle.address.specs.Coordinate.{registerOf}
+use Rattle.windows.specs.Window.{windowOf, common}
+use Rattle.windows.specs.declared.Rectangle.{Rectangle}
+use Rattle.windows.specs.declared.Clipped.{Clipped}
 use Rattle.settings.specs.declared.Settings.{Settings}
 use Rattle.engine.specs.Engine.{pixels, visits, visitedFrom}
-use Rattle.engine.specs.declared.Drawing.{Drawing}
-use Rattle.drawing.specs.declared.Operation.{Operation}
+use Rattle.plot.specs.declared.Drawing.{Drawing}
+use Rattle.operation.specs.declared.Operation.{Operation}
 use Rattle.drawing.specs.declared.Outcome.{Outcome}
-use Rattle.drawing.specs.Operation.{sourceOf, copies}
-use Rattle.drawing.specs.Array.{rectangleOf, part, vAfter, drawingFor}
-use Rattle.drawing.specs.Refusal.{refusal}
+use Rattle.operation.specs.Operation.{sourceOf, copies}
+use Rattle.arrays.specs.Array.{rectangleOf, part, vAfter, drawingFor}
+use Rattle.refusals.specs.Refusal.{refusal}
 
 -- a refused call returns its number, no request, zero for visited, and settings, place, V and registers as given
 abbrev pub refused : Settings → ℕ → Bool → ℕ → Outcome

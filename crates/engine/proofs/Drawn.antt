@@ -5,19 +5,17 @@ use mathlib.Core.List.{List}
 use Prim.Native.Nat.{ℕ, _+_, _-_, _*_, _%_, _^_, _≤_, _<_, min}
 use native.Mathlib.Nat.{mod-lt, mod-eq-of-lt, zero-mul, one-mul, add-mul, add-zero}
 use native.Mathlib.Omega.{arith}
-use Rattle.geometry.proofs.WalkLaws.{addressOf-lt}
-use Rattle.pixel.specs.Pixel.{topOf}
-use Rattle.engine.specs.declared.Drawing.{Drawing}
+use Rattle.walk.proofs.WalkLaws.{addressOf-lt}
+use Rattle.plot.specs.declared.Drawing.{Drawing}
 use Rattle.engine.specs.Engine.{stepOf, srcOf, destOf, drawnAt, visits}
-use Rattle.engine.specs.Row.{colorsOf}
+use Rattle.plot.specs.Row.{colorsOf}
 use Rattle.engine.proofs.RowLaws.{addressOf-along}
 use Rattle.engine.proofs.SourceLaws.{stepOf-lt}
 use Rattle.engine.proofs.VisitsLaws.{visits-none, visits-next, visits-add}
 
 -- what the loops are given, and keep
-pub record Given (d : Drawing) (colors : List ℕ) (top step : ℕ) : Type 0 where
+pub record Given (d : Drawing) (colors : List ℕ) (step : ℕ) : Type 0 where
   pub colors-is : colors ≡ colorsOf d
-  pub top-is : top ≡ topOf (d .psize)
   pub step-is : step ≡ stepOf (d .source) (d .psize)
 
 -- i steps on from an address
@@ -30,17 +28,17 @@ along-none x step h = sym (ap (λ (y : ℕ). (x + y) % 2 ^ 32) (zero-mul step) �
 along-next : (x step i : ℕ) → (along x step i + step) % 2 ^ 32 ≡ along x step (i + 1)
 along-next x step i = omega (arith, add-mul i 1 step, one-mul step)
 
-pub record Drawn (m₀ : List ℕ) (d : Drawing) (colors : List ℕ) (top step k n : ℕ) (m : List ℕ) (from to i : ℕ) : Type 0 where
-  pub given : Given d colors top step
+pub record Drawn (m₀ : List ℕ) (d : Drawing) (colors : List ℕ) (step k n : ℕ) (m : List ℕ) (from to i : ℕ) : Type 0 where
+  pub given : Given d colors step
   pub row : k % d .cols + n ≤ d .cols
   pub bound : i ≤ n
   pub drawn : m ≡ visits d k i m₀
   pub from-is : from ≡ along (srcOf d k) step i
   pub to-is : to ≡ along (destOf d k) (d .psize) i
 
-module _ {m₀ : List ℕ} {d : Drawing} {colors : List ℕ} {top step k n : ℕ} where
-  pub none-drawn : {from to : ℕ} → Given d colors top step → k % d .cols + n ≤ d .cols → from ≡ srcOf d k → to ≡ destOf d k
-      → Drawn m₀ d colors top step k n m₀ from to 0
+module _ {m₀ : List ℕ} {d : Drawing} {colors : List ℕ} {step k n : ℕ} where
+  pub none-drawn : {from to : ℕ} → Given d colors step → k % d .cols + n ≤ d .cols → from ≡ srcOf d k → to ≡ destOf d k
+      → Drawn m₀ d colors step k n m₀ from to 0
   none-drawn g h f t = record {
     given = g;
     row = h;
@@ -50,9 +48,9 @@ module _ {m₀ : List ℕ} {d : Drawing} {colors : List ℕ} {top step k n : ℕ
     to-is = t ∙ along-none (destOf d k) (d .psize) (addressOf-lt (d .dest) (d .cols) (d .dpitch) (d .psize) k);
   }
 
-  pub next-drawn : {m : List ℕ} {from to i : ℕ} → Drawn m₀ d colors top step k n m from to i
+  pub next-drawn : {m : List ℕ} {from to i : ℕ} → Drawn m₀ d colors step k n m from to i
       → {m′ : List ℕ} {from′ to′ : ℕ} → i < n → m′ ≡ drawnAt d from to m → from′ ≡ (from + step) % 2 ^ 32 → to′ ≡ (to + d .psize) % 2 ^ 32
-      → Drawn m₀ d colors top step k n m′ from′ to′ (i + 1)
+      → Drawn m₀ d colors step k n m′ from′ to′ (i + 1)
   next-drawn {m} {from} {to} {i} inv {m′} h e f t =
       let l : k % d .cols + i < d .cols = omega (arith, inv .row) in
       let s : from ≡ srcOf d (k + i) =

@@ -13,9 +13,9 @@ use Rattle.pixel.specs.Pixel.{topOf, pixelOf, plotted}
 use Rattle.pixel.proofs.SizeLaws.{topOf-ones}
 use Rattle.pixel.proofs.PixelLaws.{bit-pixelOf-bitAt}
 use Rattle.pixel.proofs.Footprint.{plotted-frame, plotted-depend}
-use Rattle.engine.specs.declared.Source.{Source}
-use Rattle.engine.specs.declared.Source.the-variants.{Color, Pixels, Bits}
-use Rattle.engine.specs.declared.Drawing.{Drawing}
+use Rattle.plot.specs.declared.Source.{Source}
+use Rattle.plot.specs.declared.Source.the-variants.{Color, Pixels, Bits}
+use Rattle.plot.specs.declared.Drawing.{Drawing}
 use Rattle.engine.specs.Engine.{destOf, srcOf, colorAt, sourceAt, drawnAt, visit}
 use Rattle.engine.specs.Footprint.{PixelWrites, PixelReads, pixel-bit, source-bit}
 use Rattle.engine.proofs.SourceLaws.{source-color, source-pixels, source-bits}

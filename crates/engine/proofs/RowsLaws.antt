@@ -6,8 +6,8 @@ use Prim.Native.Nat.{ℕ, _+_, _-_, _*_, _/_, _%_, _^_, _≤_, _<_, min}
 use native.Mathlib.Nat.{mod-lt, div-add-mod', one-mul, add-mul}
 use native.Mathlib.Omega.{arith}
 use lib.Arith.{digits-div, digits-mod}
-use Rattle.geometry.specs.Walk.{addressOf}
-use Rattle.engine.specs.declared.Drawing.{Drawing}
+use Rattle.walk.specs.Walk.{addressOf}
+use Rattle.plot.specs.declared.Drawing.{Drawing}
 use Rattle.engine.specs.Engine.{stepOf, srcOf, destOf, visits}
 use Rattle.engine.proofs.VisitsLaws.{visits-none, visits-add}
 use Rattle.engine.proofs.Drawn.{Given}
@@ -45,17 +45,17 @@ pub record AtRow (d : Drawing) (from to i : ℕ) : Type 0 where
   pub from-is : from ≡ srcOf d i
   pub to-is : to ≡ destOf d i
 
-pub record Rows (m₀ : List ℕ) (d : Drawing) (colors : List ℕ) (top step k n : ℕ) (m : List ℕ) (from to i : ℕ) : Type 0 where
-  pub given : Given d colors top step
+pub record Rows (m₀ : List ℕ) (d : Drawing) (colors : List ℕ) (step k n : ℕ) (m : List ℕ) (from to i : ℕ) : Type 0 where
+  pub given : Given d colors step
   pub pos : 0 < d .cols
   pub end-lt : k + n < 2 ^ 32
   pub bound : i ≤ n
   pub drawn : m ≡ visits d k i m₀
   pub at : i < n → AtRow d from to (k + i)
 
-module _ {m₀ : List ℕ} {d : Drawing} {colors : List ℕ} {top step k n : ℕ} where
-  pub no-rows : {from to : ℕ} → Given d colors top step → 0 < d .cols → k + n < 2 ^ 32 → k % d .cols ≡ 0 → from ≡ srcOf d k → to ≡ destOf d k
-      → Rows m₀ d colors top step k n m₀ from to 0
+module _ {m₀ : List ℕ} {d : Drawing} {colors : List ℕ} {step k n : ℕ} where
+  pub no-rows : {from to : ℕ} → Given d colors step → 0 < d .cols → k + n < 2 ^ 32 → k % d .cols ≡ 0 → from ≡ srcOf d k → to ≡ destOf d k
+      → Rows m₀ d colors step k n m₀ from to 0
   no-rows {from} {to} g p h z f t =
       let e : k ≡ k + 0 = omega arith in
       record {
@@ -67,7 +67,7 @@ module _ {m₀ : List ℕ} {d : Drawing} {colors : List ℕ} {top step k n : ℕ
         at = λ l. rw (← e) (record { first = z; from-is = f; to-is = t });
       }
 
-  module _ {m : List ℕ} {from to i count : ℕ} (inv : Rows m₀ d colors top step k n m from to i) (more : i < n) (e : count ≡ min (d .cols) (n - i)) where
+  module _ {m : List ℕ} {from to i count : ℕ} (inv : Rows m₀ d colors step k n m from to i) (more : i < n) (e : count ≡ min (d .cols) (n - i)) where
     pub rows-some : 0 < count
     rows-some = omega (arith, e, inv .pos)
 
@@ -78,7 +78,7 @@ module _ {m₀ : List ℕ} {d : Drawing} {colors : List ℕ} {top step k n : ℕ
     rows-end = omega (arith, e)
 
     pub next-rows : {m′ : List ℕ} {from′ to′ : ℕ} → m′ ≡ visits d (k + i) count m → from′ ≡ (from + d .spitch) % 2 ^ 32 → to′ ≡ (to + d .dpitch) % 2 ^ 32
-        → Rows m₀ d colors top step k n m′ from′ to′ (i + count)
+        → Rows m₀ d colors step k n m′ from′ to′ (i + count)
     next-rows {m′} {from′} {to′} v f t = record {
       given = inv .given;
       pos = inv .pos;

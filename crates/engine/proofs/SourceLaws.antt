@@ -11,10 +11,10 @@ use Rattle.memory.specs.Bits.{bitAt}
 use Rattle.memory.proofs.BitLaws.{bit-lt}
 use Rattle.pixel.specs.Pixel.{topOf, pixelOf}
 use Rattle.pixel.proofs.BitwiseLaws.{bit-cases}
-use Rattle.engine.specs.declared.Source.{Source}
-use Rattle.engine.specs.declared.Source.the-variants.{Color, Pixels, Bits}
-use Rattle.engine.specs.declared.Drawing.{Drawing}
-use Rattle.engine.specs.Row.{colorsOf}
+use Rattle.plot.specs.declared.Source.{Source}
+use Rattle.plot.specs.declared.Source.the-variants.{Color, Pixels, Bits}
+use Rattle.plot.specs.declared.Drawing.{Drawing}
+use Rattle.plot.specs.Row.{colorsOf}
 use Rattle.engine.specs.Engine.{stepOf, colorAt, sourceBy, sourceAt}
 
 pub bitAt-lt : (m : List ℕ) (a : ℕ) → bitAt m a < 2

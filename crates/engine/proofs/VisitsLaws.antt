@@ -11,10 +11,10 @@ use lib.ListN.{length}
 use Rattle.memory.specs.Bits.{Memory}
 use Rattle.pixel.specs.Pixel.{topOf, plotted}
 use Rattle.pixel.proofs.PixelLaws.{length-plotted, memory-plotted}
-use Rattle.geometry.specs.Walk.{addressOf}
-use Rattle.geometry.proofs.Arithmetic.{product-lt}
-use Rattle.engine.specs.declared.Source.the-variants.{Color}
-use Rattle.engine.specs.declared.Drawing.{Drawing}
+use Rattle.walk.specs.Walk.{addressOf}
+use Rattle.address.proofs.Arithmetic.{product-lt}
+use Rattle.plot.specs.declared.Source.the-variants.{Color}
+use Rattle.plot.specs.declared.Drawing.{Drawing}
 use Rattle.engine.specs.Engine.{pixels, visitedFrom, srcOf, destOf, colorAt, drawnAt, visit, visits}
 use Rattle.engine.proofs.SourceLaws.{source-color}
 

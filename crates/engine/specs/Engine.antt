@@ -7,10 +7,10 @@ use lib.Dec.{eqb}
 use lib.ListN.{getD}
 use Rattle.memory.specs.Bits.{bitAt}
 use Rattle.pixel.specs.Pixel.{topOf, pixelOf, plotted}
-use Rattle.geometry.specs.Walk.{addressOf}
-use Rattle.engine.specs.declared.Source.{Source}
-use Rattle.engine.specs.declared.Source.the-variants.{Color, Pixels, Bits}
-use Rattle.engine.specs.declared.Drawing.{Drawing}
+use Rattle.walk.specs.Walk.{addressOf}
+use Rattle.plot.specs.declared.Source.{Source}
+use Rattle.plot.specs.declared.Source.the-variants.{Color, Pixels, Bits}
+use Rattle.plot.specs.declared.Drawing.{Drawing}
 
 -- the pixels of a drawing
 abbrev pub pixels : Drawing → ℕ

@@ -4,8 +4,8 @@ use mathlib.Core.Path.{_≡_}
 use Prim.Native.Nat.{ℕ, _+_, _-_, _%_, _≤_, _<_}
 use Rattle.memory.specs.Bits.{bitOf}
 use Rattle.pixel.specs.Footprint.{Touched}
-use Rattle.engine.specs.declared.Source.the-variants.{Pixels, Bits}
-use Rattle.engine.specs.declared.Drawing.{Drawing}
+use Rattle.plot.specs.declared.Source.the-variants.{Pixels, Bits}
+use Rattle.plot.specs.declared.Drawing.{Drawing}
 use Rattle.engine.specs.Engine.{destOf, srcOf}
 
 -- pixel i may write bit b

@@ -8,15 +8,15 @@ use Rattle.lists.specs.Search.{any, first, anyPair}
 use Rattle.cache.specs.Cache.{refused, latest, lookup, fetched}
 use Rattle.pixel.specs.PixelOp.{operations, processed}
 use Rattle.pixel.specs.Pixel.{pixelOf, result, pixelAfter, withPixel, wordAfter}
-use Rattle.geometry.specs.Address.{xyAddress, badXYPitch}
-use Rattle.geometry.specs.Window.{common, clipped}
-use Rattle.geometry.specs.Walk.{addressOf, reaches, leavesMemory}
-use Rattle.pixt.specs.Lone.{xyDestination}
-use Rattle.pixt.specs.Lone as lone
-use Rattle.pixt.specs.Drav.{dravOf}
-use Rattle.drawing.specs.Array.{part, vAfter, destStart, srcStart, drawingOf}
-use Rattle.drawing.specs.Refusal.{refusalOf}
-use Rattle.drawing.specs.Refusal as drawing
+use Rattle.address.specs.Address.{xyAddress, badXYPitch}
+use Rattle.windows.specs.Window.{common, clipped}
+use Rattle.walk.specs.Walk.{addressOf, reaches, leavesMemory}
+use Rattle.lone.specs.Lone.{xyDestination}
+use Rattle.lone.specs.Lone as lone
+use Rattle.drav.specs.Drav.{dravOf}
+use Rattle.arrays.specs.Array.{part, vAfter, destStart, srcStart, drawingOf}
+use Rattle.refusals.specs.Refusal.{refusalOf}
+use Rattle.refusals.specs.Refusal as drawing
 use Rattle.drawing.specs.Draw.{outcomeAt, outcome}
 use Rattle.points.specs.Axes.{count}
 use Rattle.points.specs.Points.{indices}

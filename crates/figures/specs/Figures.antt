@@ -14,20 +14,20 @@ use Rattle.cache.specs.declared.Kind.{Kind}
 use Rattle.cache.specs.declared.Kind.the-variants.{Hit, SubsegmentMiss, SegmentMiss}
 use Rattle.pixel.specs.PixelOp.{processed}
 use Rattle.pixel.specs.Pixel.{topOf, wordAfter}
-use Rattle.geometry.specs.Coordinate.{xOf, yOf}
-use Rattle.geometry.specs.Address.{xyAddress}
-use Rattle.geometry.specs.Window.{windowOf, clipped}
-use Rattle.geometry.specs.Kept.{kept}
-use Rattle.geometry.specs.Walk.{leavesMemory}
-use Rattle.geometry.specs.declared.Rectangle.{Rectangle}
-use Rattle.geometry.specs.declared.Clipped.{Clipped}
+use Rattle.address.specs.Coordinate.{xOf, yOf}
+use Rattle.address.specs.Address.{xyAddress}
+use Rattle.windows.specs.Window.{windowOf, clipped}
+use Rattle.windows.specs.Kept.{kept}
+use Rattle.walk.specs.Walk.{leavesMemory}
+use Rattle.windows.specs.declared.Rectangle.{Rectangle}
+use Rattle.windows.specs.declared.Clipped.{Clipped}
 use Rattle.settings.specs.declared.Settings.{Settings}
-use Rattle.pixt.specs.Lone.{xyDestination}
+use Rattle.lone.specs.Lone.{xyDestination}
 use Rattle.pixt.specs.Pixt.{drawnAt}
-use Rattle.pixt.specs.Drav.{dravOf}
-use Rattle.drawing.specs.Refusal.{refusal}
+use Rattle.drav.specs.Drav.{dravOf}
+use Rattle.refusals.specs.Refusal.{refusal}
 use Rattle.drawing.specs.Draw.{outcome}
-use Rattle.drawing.specs.declared.Operation.the-variants.{FillXY}
+use Rattle.operation.specs.declared.Operation.the-variants.{FillXY}
 use Rattle.points.specs.Axes.{Axis}
 use Rattle.points.specs.Points.{indices}
 use Rattle.points.specs.Points as points

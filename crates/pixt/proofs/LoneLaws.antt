@@ -15,11 +15,11 @@ use Rattle.pixel.specs.Control.{transparency, processing, badControl}
 use Rattle.pixel.specs.Pixel.{badPixelSize, topOf, pixelOf, plotted}
 use Rattle.pixel.proofs.SizeLaws.{size-le, aligned-fits, topOf-ones}
 use Rattle.pixel.proofs.PixelLaws.{pixelOf-mod}
-use Rattle.geometry.specs.Coordinate.{xOf, yOf, negative}
-use Rattle.geometry.specs.Address.{misaligned}
+use Rattle.address.specs.Coordinate.{xOf, yOf, negative}
+use Rattle.address.specs.Address.{misaligned}
 use Rattle.settings.specs.declared.Settings.{Settings}
-use Rattle.pixt.specs.declared.Lone.{Lone}
-use Rattle.pixt.specs.Lone.{refusal, linearPixel, placeOf, badStart, xyDestination}
+use Rattle.lone.specs.declared.Lone.{Lone}
+use Rattle.lone.specs.Lone.{refusal, linearPixel, placeOf, badStart, xyDestination}
 use Rattle.pixt.specs.Pixt.{drawnAt, lowBits}
 
 -- ---- a register's bits at a place in a word

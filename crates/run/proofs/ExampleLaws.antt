@@ -5,13 +5,13 @@ use Rattle.memory.specs.Changed.{differing, changedBits}
 use Rattle.image.specs.Image.{stepped}
 use Rattle.pixel.specs.PixelOp.{operations, processed}
 use Rattle.pixel.specs.Pixel.{pixelOf, result, pixelAfter, withPixel, wordAfter, plotted}
-use Rattle.geometry.specs.Address.{xyAddress, badXYPitch}
-use Rattle.geometry.specs.Window.{common, clipped}
-use Rattle.geometry.specs.Walk.{addressOf, reaches, leavesMemory}
+use Rattle.address.specs.Address.{xyAddress, badXYPitch}
+use Rattle.windows.specs.Window.{common, clipped}
+use Rattle.walk.specs.Walk.{addressOf, reaches, leavesMemory}
 use Rattle.settings.specs.Settings.{settingsOf}
 use Rattle.engine.specs.Engine.{sourceAt, drawnAt, visits}
-use Rattle.drawing.specs.Array.{part, vAfter, destStart, srcStart, drawingOf}
-use Rattle.drawing.specs.Refusal.{refusalOf, refusal}
+use Rattle.arrays.specs.Array.{part, vAfter, destStart, srcStart, drawingOf}
+use Rattle.refusals.specs.Refusal.{refusalOf, refusal}
 use Rattle.drawing.specs.Draw.{outcomeAt, outcome, drawn}
 use Rattle.points.specs.Axes.{count}
 use Rattle.points.specs.Points.{indices, assigned, experiment}

@@ -11,17 +11,17 @@ use Rattle.memory.specs.Bits.{noMemory}
 use Rattle.memory.specs.Changed.{changedBits, counted}
 use Rattle.memory.proofs.ChangedLaws.{changedBits-same}
 use Rattle.pixel.specs.Control.{windowing}
-use Rattle.geometry.specs.Window.{windowOf}
-use Rattle.geometry.specs.Window.{whole as whole·rectangle}
-use Rattle.geometry.specs.declared.Clipped.{Clipped}
-use Rattle.geometry.proofs.WindowLaws.{Fits, clipped-fits}
+use Rattle.windows.specs.Window.{windowOf}
+use Rattle.windows.specs.Window.{whole as whole·rectangle}
+use Rattle.windows.specs.declared.Clipped.{Clipped}
+use Rattle.windows.proofs.WindowLaws.{Fits, clipped-fits}
 use Rattle.settings.specs.declared.Settings.{Settings}
 use Rattle.engine.specs.Engine.{pixels}
 use Rattle.engine.proofs.VisitsLaws.{pixels-lt}
-use Rattle.drawing.specs.declared.Operation.{Operation}
-use Rattle.drawing.specs.Operation.{toXY}
-use Rattle.drawing.specs.Array.{rectangleOf, part, drawingOf, drawingFor}
-use Rattle.drawing.specs.Refusal.{refusal}
+use Rattle.operation.specs.declared.Operation.{Operation}
+use Rattle.operation.specs.Operation.{toXY}
+use Rattle.arrays.specs.Array.{rectangleOf, part, drawingOf, drawingFor}
+use Rattle.refusals.specs.Refusal.{refusal}
 use Rattle.drawing.specs.Draw.{outcomeAt, visitedBy, outcome, drawn}
 use Rattle.points.specs.Points.{experiment}
 use Rattle.points.specs.Table.{axesIn, pointsIn, outAfter}

@@ -9,20 +9,20 @@ use borrow.Author.Tests.{eqb-true, eqb-false}
 use lib.Dec.{eqb}
 use lib.ListN.{length}
 use Rattle.pixel.specs.Control.{windowing}
-use Rattle.geometry.specs.Window.{windowOf, clipped, whole, nothing, empty, meet}
-use Rattle.geometry.specs.declared.Rectangle.{Rectangle}
-use Rattle.geometry.specs.declared.Window.{Window}
+use Rattle.windows.specs.Window.{windowOf, clipped, whole, nothing, empty, meet}
+use Rattle.windows.specs.declared.Rectangle.{Rectangle}
+use Rattle.windows.specs.declared.Window.{Window}
 use Rattle.settings.specs.declared.Settings.{Settings}
 use Rattle.engine.specs.Engine.{pixels, visit, visits}
-use Rattle.drawing.specs.declared.Operation.{Operation}
+use Rattle.operation.specs.declared.Operation.{Operation}
 use Rattle.drawing.specs.declared.Outcome.{Outcome}
-use Rattle.drawing.specs.Operation.{toXY}
-use Rattle.drawing.specs.Array.{rectangleOf, part, drawingOf, drawingFor}
-use Rattle.drawing.specs.Refusal.{refusal}
+use Rattle.operation.specs.Operation.{toXY}
+use Rattle.arrays.specs.Array.{rectangleOf, part, drawingOf, drawingFor}
+use Rattle.refusals.specs.Refusal.{refusal}
 use Rattle.drawing.specs.Draw.{refused, found, outcomeAt, visitedBy, outcome, drawn}
 use Rattle.interleave.specs.Machine.{heldAt, refusedAt, handed, call, visits as machineVisits, drawn as machineDrawn}
 use Rattle.slices.specs.Slices.{Job, SameCall, registersOf, heldOf, outcomeOf, memoryAfter, walkOf, keptBy, endedBy, drawings}
-use Rattle.drawing.proofs.RefusalLaws.{place-le}
+use Rattle.refusals.proofs.RefusalLaws.{place-le}
 
 -- ---- W=1 draws nothing
 clipped-one : (r : Rectangle) (win : Window) → clipped 1 r win false .cols ≡ 0

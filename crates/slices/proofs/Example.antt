@@ -9,15 +9,15 @@ use lib.ListN.{getD}
 use Rattle.memory.specs.Bits.{Memory}
 use Rattle.pixel.specs.PixelOp.{operations, processed}
 use Rattle.pixel.specs.Pixel.{pixelOf, result, pixelAfter, withPixel, wordAfter, plotted}
-use Rattle.geometry.specs.Address.{xyAddress, badXYPitch}
-use Rattle.geometry.specs.Window.{common, clipped}
-use Rattle.geometry.specs.Walk.{addressOf, reaches, leavesMemory}
+use Rattle.address.specs.Address.{xyAddress, badXYPitch}
+use Rattle.windows.specs.Window.{common, clipped}
+use Rattle.walk.specs.Walk.{addressOf, reaches, leavesMemory}
 use Rattle.engine.specs.Engine.{sourceAt, drawnAt, visits}
 use Rattle.engine.specs.Footprint.{pixel-bit, source-bit}
-use Rattle.drawing.specs.declared.Operation.the-variants.{FillXY, PixbltLL}
-use Rattle.drawing.specs.Operation.{copies, copiesPixels}
-use Rattle.drawing.specs.Array.{part, vAfter, destStart, srcStart, drawingOf}
-use Rattle.drawing.specs.Refusal.{refusalOf, refusal}
+use Rattle.operation.specs.declared.Operation.the-variants.{FillXY, PixbltLL}
+use Rattle.operation.specs.Operation.{copies, copiesPixels}
+use Rattle.arrays.specs.Array.{part, vAfter, destStart, srcStart, drawingOf}
+use Rattle.refusals.specs.Refusal.{refusalOf, refusal}
 use Rattle.drawing.specs.Draw.{outcomeAt, outcome, drawn}
 use Rattle.interleave.specs.Machine.{BitsOf}
 use Rattle.interleave.specs.Schedule.{Event, slice, other, BitsApart}

@@ -9,25 +9,25 @@ use Rattle.memory.proofs.Tests.{or-false-left, or-false-right}
 use Rattle.pixel.specs.Control.{windowing}
 use Rattle.pixel.specs.Pixel.{badPixelSize}
 use Rattle.pixel.proofs.SizeLaws.{by-size}
-use Rattle.geometry.specs.Address.{misaligned}
-use Rattle.geometry.specs.Walk.{addressOf}
-use Rattle.geometry.proofs.Arithmetic.{multiple-of-16}
-use Rattle.geometry.proofs.AddressLaws.{multiple-of-badXYPitch, multiple-of-badLinearPitch}
-use Rattle.geometry.proofs.WalkLaws.{addressOf-room, lt-of-leavesMemory}
+use Rattle.address.specs.Address.{misaligned}
+use Rattle.walk.specs.Walk.{addressOf}
+use Rattle.address.proofs.Arithmetic.{multiple-of-16}
+use Rattle.address.proofs.AddressLaws.{multiple-of-badXYPitch, multiple-of-badLinearPitch}
+use Rattle.walk.proofs.WalkLaws.{addressOf-room, lt-of-leavesMemory}
 use Rattle.settings.specs.declared.Settings.{Settings}
-use Rattle.engine.specs.declared.Source.{Source}
-use Rattle.engine.specs.declared.Source.the-variants.{Pixels}
+use Rattle.plot.specs.declared.Source.{Source}
+use Rattle.plot.specs.declared.Source.the-variants.{Pixels}
 use Rattle.engine.specs.Engine.{pixels, stepOf, destOf, srcOf, visit}
 use Rattle.engine.specs.Footprint.{PixelWrites, PixelReads}
 use Rattle.engine.proofs.FootprintLaws.{memory-visit, visit-frame, visit-depend}
-use Rattle.drawing.specs.declared.Operation.{Operation}
-use Rattle.drawing.specs.Operation.{toXY, fromXY, sourceOf, copiesPixels}
-use Rattle.drawing.specs.Array.{part, vAfter, drawingOf, drawingFor, destStart, srcStart}
-use Rattle.drawing.specs.Refusal.{badPitch, badDest, badSource, negativeStart}
+use Rattle.operation.specs.declared.Operation.{Operation}
+use Rattle.operation.specs.Operation.{toXY, fromXY, sourceOf, copiesPixels}
+use Rattle.arrays.specs.Array.{part, vAfter, drawingOf, drawingFor, destStart, srcStart}
+use Rattle.refusals.specs.Refusal.{badPitch, badDest, badSource, negativeStart}
 use Rattle.interleave.specs.Footprint.{Foot}
 use Rattle.interleave.specs.Machine.{Lawful}
 use Rattle.slices.specs.Slices.{drawings, Writes, Reads}
-use Rattle.drawing.proofs.RefusalLaws.{Passes, passes, refusal-ten, refusal-place}
+use Rattle.refusals.proofs.RefusalLaws.{Passes, passes, refusal-ten, refusal-place}
 
 -- a test that is false, and of which one part is true
 and-false : (a b : Bool) → a ≡ true → (a && b) ≡ false → b ≡ false

@@ -8,11 +8,11 @@ use lib.ListN.{length}
 use Rattle.settings.specs.declared.Settings.{Settings}
 use Rattle.engine.specs.Engine.{pixels, visit}
 use Rattle.engine.specs.Footprint.{PixelWrites, PixelReads}
-use Rattle.engine.specs.declared.Drawing.{Drawing}
-use Rattle.drawing.specs.declared.Operation.{Operation}
+use Rattle.plot.specs.declared.Drawing.{Drawing}
+use Rattle.operation.specs.declared.Operation.{Operation}
 use Rattle.drawing.specs.declared.Outcome.{Outcome}
-use Rattle.drawing.specs.Array.{part, vAfter, drawingFor}
-use Rattle.drawing.specs.Refusal.{refusal}
+use Rattle.arrays.specs.Array.{part, vAfter, drawingFor}
+use Rattle.refusals.specs.Refusal.{refusal}
 use Rattle.drawing.specs.Draw.{outcome, outcomeAt, drawn}
 use Rattle.interleave.specs.Machine.{Machine, Held, call}
 

@@ -9,9 +9,9 @@ use Rattle.field.proofs.RoundLaws as field
 use Rattle.image.specs.Image.{imaged}
 use Rattle.cache.specs.Cache.{fetched}
 use Rattle.pixt.specs.Pixt.{pixtTo, pixtFrom}
-use Rattle.pixt.specs.Drav.{dravOf}
+use Rattle.drav.specs.Drav.{dravOf}
 use Rattle.engine.specs.Engine.{pixels}
-use Rattle.drawing.specs.Array.{drawingFor}
+use Rattle.arrays.specs.Array.{drawingFor}
 use Rattle.drawing.specs.Draw.{outcomeAt, visitedBy, outcome, drawn}
 use Rattle.theorems.specs.Refused.{DrawRefused, DrawAccepted, PixtRefused, DravRefused, WriteRefused, ImageRefused, FetchRefused}
 

@@ -9,8 +9,8 @@ use Rattle.timing.proofs.CaseLaws as timing
 use Rattle.image.proofs.SeedLaws as image
 use Rattle.cache.proofs.FetchLaws as cache
 use Rattle.pixel.proofs.Footprint as pixel
-use Rattle.geometry.proofs.WindowLaws as window
-use Rattle.geometry.proofs.WalkLaws as walk
+use Rattle.windows.proofs.WindowLaws as window
+use Rattle.walk.proofs.WalkLaws as walk
 use Rattle.slices.proofs.CallsAgree as calls
 use Rattle.slices.proofs.Demand3 as slices
 use Rattle.theorems.specs.Theorems.{BitsDecide, ChangedDecides, ReadBack, WriteFrame, WriteBack, PastEnd, OneCase, FetchAccepted, RefusedExactly, PixelFrame, PixelDepends, KeptIsSeen, SeenIsKept, WalkInside, SeedsDiffer, TwoDrawings, Stopped, StaysDone, PublicCalls}

@@ -12,11 +12,11 @@ use Rattle.cache.specs.Cache.{refused, fetched}
 use Rattle.cache.specs.declared.Cache.{Cache}
 use Rattle.cache.specs.declared.Kind.the-variants.{Refused}
 use Rattle.settings.specs.declared.Settings.{Settings}
-use Rattle.pixt.specs.declared.Lone.{Lone}
+use Rattle.lone.specs.declared.Lone.{Lone}
 use Rattle.pixt.specs.Pixt.{drawnAt, pixtTo, pixtFrom}
-use Rattle.pixt.specs.Drav.{dravOf}
-use Rattle.drawing.specs.declared.Operation.{Operation}
-use Rattle.drawing.specs.Refusal.{refusal}
+use Rattle.drav.specs.Drav.{dravOf}
+use Rattle.operation.specs.declared.Operation.{Operation}
+use Rattle.refusals.specs.Refusal.{refusal}
 use Rattle.drawing.specs.Draw.{outcome, drawn}
 
 -- FILL and PIXBLT: place, V, registers and settings come back as given, nothing is visited, there is no request, and memory stays.

@@ -17,11 +17,11 @@ use Rattle.cache.specs.declared.Cache.{Cache}
 use Rattle.cache.specs.declared.Kind.the-variants.{Refused}
 use Rattle.pixel.specs.Pixel.{plotted}
 use Rattle.pixel.specs.Footprint.{Touched}
-use Rattle.geometry.specs.Window.{clipped}
-use Rattle.geometry.specs.Kept.{Pixel, Seen, kept}
-use Rattle.geometry.specs.Walk.{addressOf, leavesMemory}
-use Rattle.geometry.specs.declared.Rectangle.{Rectangle}
-use Rattle.geometry.specs.declared.Window.{Window}
+use Rattle.windows.specs.Window.{clipped}
+use Rattle.windows.specs.Kept.{Pixel, Seen, kept}
+use Rattle.walk.specs.Walk.{addressOf, leavesMemory}
+use Rattle.windows.specs.declared.Rectangle.{Rectangle}
+use Rattle.windows.specs.declared.Window.{Window}
 use Rattle.slices.specs.Slices.{Job, SameCall}
 use Rattle.slices.specs.Demand3.{Demand3, StoppedAnywhere, DoneForGood}
 

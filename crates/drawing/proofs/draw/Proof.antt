@@ -1,18 +1,17 @@
--- `drawing::draw` meets its contract. Assumes nothing.
+-- `draw` meets its contract. Assumes nothing.
 use mathlib.Core.Path.{_≡_, refl, sym, ap, ap₂, _∙_}
 use Prim.Native.Nat.{ℕ, _+_, _^_, _<_, _≤_}
 use native.Mathlib.Omega.{arith}
 use borrow.Author.Needs.{needs}
 use borrow.Author.Tests.{eq-eqb, ne-eqb}
 use lib.ListN.{length}
-use Rattle.geometry.specs.declared.Clipped.{Clipped}
+use Rattle.windows.specs.declared.Clipped.{Clipped}
 use Rattle.engine.specs.Engine.{pixels, visits, visitedFrom}
-use Rattle.engine.specs.declared.Drawing.{Drawing}
-use Rattle.drawing.specs.Array.{part, vAfter, drawingOf, drawingFor}
-use Rattle.drawing.specs.Refusal.{refusalOf, refusal}
+use Rattle.plot.specs.declared.Drawing.{Drawing}
+use Rattle.arrays.specs.Array.{part, vAt, vAfter, drawingOf, drawingFor}
+use Rattle.refusals.specs.Refusal.{refusalOf, refusal}
 use Rattle.drawing.specs.Draw.{refused, outcomeAt, visitedBy, outcome, drawn}
-use Rattle.drawing.proofs.PartLaws.{part-skip}
-use Rattle.drawing.proofs.RefusalLaws.{place-le}
+use Rattle.refusals.proofs.RefusalLaws.{place-le}
 use Rattle.drawing.proofs.draw.Statement.{statement}
 use Rattle.drawing.proofs.draw.Tie as tie
 
@@ -32,13 +31,10 @@ part-of-requires : tie.Need-part-of-requires
 part-of-requires c κs = search needs
 
 drawing-of-requires : tie.Need-drawing-of-requires
-drawing-of-requires c κs = rw (c .part-of .ensures) (part-skip _ _)
+drawing-of-requires c κs = search needs
 
 refusal-of-requires : tie.Need-refusal-of-requires
-unfolding drawingOf
-refusal-of-requires c κs =
-    let k = part-skip (c .before .before .before .args .op) (c .before .before .before .args .s) in
-    rw (c .before .part-of .ensures) (k .0, k .1, ap (λ (d : Drawing). d .psize) (c .drawing-of .ensures))
+refusal-of-requires c κs = search needs
 
 refused-requires : tie.Need-refused-requires
 refused-requires c κs = search needs
@@ -54,8 +50,8 @@ returns c =
 run-requires : tie.Need-run-requires
 run-requires c κs = search needs
 
-v-after-requires : tie.Need-v-after-requires
-v-after-requires c κs = search needs
+v-at-requires : tie.Need-v-at-requires
+v-at-requires c κs = search needs
 
 place-after-requires : tie.Need-place-after-requires
 place-after-requires c κs =
@@ -74,7 +70,7 @@ same-length : tie.Need-same-length
 same-length c = search needs
 
 returns-2 : tie.Need-returns-2
-unfolding outcome drawn
+unfolding outcome drawn vAfter
 returns-2 c =
     let u = c .before .before .before .before .before in
     let r = u .before .before .before in
@@ -83,10 +79,10 @@ returns-2 c =
     let z : refusal (x .op) (x .s) (x .place) (length (x .memory .now)) ≡ 0 = sym (refusal-is r) ∙ u .before .before .if1 .left in
     let part-is : d .before .part-of .result ≡ part (x .op) (x .s) = d .before .part-of .ensures in
     let drawing : d .drawing-of .result ≡ drawingFor (x .op) (x .s) = drawing-is d in
-    let v-is : c .before .before .v-after .result ≡ vAfter (x .op) (x .s) (x .v) = c .before .before .v-after .ensures in
+    let v-is : c .before .before .v-at .result ≡ vAfter (x .op) (x .s) (x .v) = c .before .before .v-at .ensures ∙ ap (λ (k : Clipped). vAt (x .op) (x .s) k (x .v)) part-is in
     let visited-is : u .run .result ≡ visitedFrom (drawingFor (x .op) (x .s)) (x .place) (x .budget) = u .run .ensures .0 ∙ ap (λ (e : Drawing). visitedFrom e (x .place) (x .budget)) drawing in
     let next-is : c .before .place-after .result ≡ x .place + u .run .result = c .before .place-after .ensures in
-    (rw (eq-eqb _ _ z) (c .outcome-at .ensures ∙ (cc)), rw (eq-eqb _ _ z) (u .run .ensures .1 ∙ ap (λ (e : Drawing). visits e (x .place) (visitedFrom e (x .place) (x .budget)) (x .memory .now)) drawing))
+    (rw (eq-eqb _ _ z) (c .outcome-at .ensures ∙ (λ i. outcomeAt (x .op) (x .s) (part-is i) (drawing i) (v-is i) ((next-is ∙ ap (λ (n : ℕ). x .place + n) visited-is) i) (visited-is i))), rw (eq-eqb _ _ z) (u .run .ensures .1 ∙ ap (λ (e : Drawing). visits e (x .place) (visitedFrom e (x .place) (x .budget)) (x .memory .now)) drawing))
 
 pub draw-spec : {M : Type 1} → statement M
 draw-spec =
@@ -98,7 +94,7 @@ draw-spec =
     refused-requires
     returns
     run-requires
-    v-after-requires
+    v-at-requires
     place-after-requires
     outcome-at-requires
     same-length

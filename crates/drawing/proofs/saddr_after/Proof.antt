@@ -1,6 +1,6 @@
--- `drawing::saddr_after` meets its contract. Assumes nothing.
+-- `saddr_after` meets its contract. Assumes nothing.
 use mathlib.Core.Path.{_≡_, sym, ap, _∙_}
-use Rattle.drawing.specs.Operation.{sourceOf, copies}
+use Rattle.operation.specs.Operation.{sourceOf, copies}
 use borrow.Author.Needs.{needs}
 use Rattle.drawing.proofs.saddr_after.Statement.{statement}
 use Rattle.drawing.proofs.saddr_after.Tie as tie

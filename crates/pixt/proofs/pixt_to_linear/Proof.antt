@@ -1,4 +1,6 @@
--- `pixt::pixt_to_linear` meets its contract. Assumes nothing.
+-- `pixt_to_linear` meets its contract. Assumes nothing.
+use mathlib.Core.Path.{ap, _∙_}
+use Rattle.pixt.specs.Pixt.{pixtTo}
 use borrow.Author.Needs.{needs}
 use lib.ListN.{length}
 use Rattle.pixt.proofs.LoneLaws.{linearPixel-aligned, drawn-register}
@@ -26,7 +28,7 @@ returns c =
     let k = d .before in
     let p = k .before .before in
     let a = p .before .before .args in
-    (cc, drawn-register (a .s) (a .value) (a .memory .now) (p .linear-pixel .ensures) (linearPixel-aligned (length (a .memory .now)) (a .s) (a .address) (a .v)) (k .at-place .ensures) (d .draw .ensures))
+    (c .done-to .ensures ∙ ap (pixtTo (a .s) (a .v)) (p .linear-pixel .ensures), drawn-register (a .s) (a .value) (a .memory .now) (p .linear-pixel .ensures) (linearPixel-aligned (length (a .memory .now)) (a .s) (a .address) (a .v)) (k .at-place .ensures) (d .draw .ensures))
 
 pub pixt-to-linear-spec : {M : Type 1} → statement M
 pixt-to-linear-spec =

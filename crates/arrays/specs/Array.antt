@@ -1,0 +1,75 @@
+-- The arrays of a drawing after the window (the scope, "Arrays, windows and slices"): what is drawn, and where both walks start.
+-- Assumes nothing.
+use mathlib.Core.Bool.{Bool, false, cond, not, _&&_}
+use Prim.Native.Nat.{ℕ, _+_, _*_, _/_, _%_, _^_}
+use lib.Dec.{eqb}
+use Rattle.pixel.specs.Control.{transparency, windowing, processing}
+use Rattle.address.specs.Coordinate.{xOf, yOf}
+use Rattle.address.specs.Address.{xyAddress}
+use Rattle.windows.specs.Window.{windowOf, clipped, whole}
+use Rattle.windows.specs.declared.Rectangle.{Rectangle}
+use Rattle.windows.specs.declared.Clipped.{Clipped}
+use Rattle.settings.specs.declared.Settings.{Settings}
+use Rattle.engine.specs.Engine.{stepOf}
+use Rattle.plot.specs.declared.Drawing.{Drawing}
+use Rattle.operation.specs.declared.Operation.{Operation}
+use Rattle.operation.specs.Operation.{toXY, fromXY, sourceOf}
+
+-- the destination rectangle X to X+DX-1, Y to Y+DY-1; DX and DY are unsigned
+abbrev pub rectangleOf : Settings → Rectangle
+rectangleOf s = record { x = xOf (s .daddr); y = yOf (s .daddr); cols = s .dydx % 2 ^ 16; rows = s .dydx / 2 ^ 16 }
+
+-- what of it is drawn, with request, and V if V was 0; linear destinations ignore W
+unfoldable pub part : Operation → Settings → Clipped
+part op s =
+    cond (toXY op)
+    (clipped (windowing (s .control)) (rectangleOf s) (windowOf (s .wstart) (s .wend)) false)
+    (whole (rectangleOf s) false)
+
+-- V after the call: with W 0 it stays as given, and linear destinations keep it; otherwise the window decides
+abbrev pub vAt : Operation → Settings → Clipped → Bool → Bool
+vAt op s c v = cond (toXY op && not (eqb (windowing (s .control)) 0)) (c .v) v
+
+unfoldable pub vAfter : Operation → Settings → Bool → Bool
+vAfter op s v = vAt op s (part op s) v
+
+-- the XY start of an array after clipping, which moves it by the columns and rows skipped, unwrapped
+abbrev pub startX : ℕ → Clipped → ℕ
+startX xy c = xOf xy + c .left
+
+abbrev pub startY : ℕ → Clipped → ℕ
+startY xy c = yOf xy + c .above
+
+-- where the destination's walk starts
+unfoldable pub destStart : Operation → Settings → Clipped → ℕ
+destStart op s c =
+    cond (toXY op) (xyAddress (s .offset) (s .dptch) (s .psize) (startX (s .daddr) c) (startY (s .daddr) c)) (s .daddr)
+
+-- where the source's walk starts: a linear start moves by the same columns and rows, a B source by bits and SPTCH
+unfoldable pub srcStart : Operation → Settings → Clipped → ℕ
+srcStart op s c =
+    cond (fromXY op) (xyAddress (s .offset) (s .sptch) (s .psize) (startX (s .saddr) c) (startY (s .saddr) c))
+    ((s .saddr + c .above * s .sptch + c .left * stepOf (sourceOf op) (s .psize)) % 2 ^ 32)
+
+-- the drawing; the low 16 bits of the colours count
+unfoldable pub drawingOf : Operation → Settings → Clipped → Drawing
+drawingOf op s c =
+    record {
+      cols = c .cols;
+      rows = c .rows;
+      dest = destStart op s c;
+      dpitch = s .dptch;
+      source = sourceOf op;
+      src = srcStart op s c;
+      spitch = s .sptch;
+      psize = s .psize;
+      pp = processing (s .control);
+      t = transparency (s .control);
+      pmask = s .pmask;
+      color0 = s .color0 % 2 ^ 16;
+      color1 = s .color1 % 2 ^ 16;
+    }
+
+-- the drawing of an operation with its settings
+abbrev pub drawingFor : Operation → Settings → Drawing
+drawingFor op s = drawingOf op s (part op s)

@@ -1,0 +1,124 @@
+// The arrays of a drawing after the window: what is drawn, and where both walks start.
+ghost use mathlib.Core.Path.{_≡_};
+ghost use Prim.Native.Nat.{_+_, _*_, _%_, _^_};
+ghost use Rattle.arrays.specs.Array.{rectangleOf, part, vAt, startX, startY, destStart, srcStart, drawingOf};
+use operation::Operation;
+use plot::Drawing;
+use settings::Settings;
+use windows::Clipped;
+use windows::Rectangle;
+
+// The destination rectangle.
+pub fn rectangle_of(s: Settings) -> Rectangle
+    ensures { λ r. ⌜ r ≡ rectangleOf s ⌝ }
+{
+    Rectangle {
+        x: address::x_of(s.daddr),
+        y: address::y_of(s.daddr),
+        cols: (s.dydx % 65536) as u16,
+        rows: (s.dydx / 65536) as u16,
+    }
+}
+
+// What is drawn, with the request.
+pub fn part_of(op: Operation, s: Settings) -> Clipped
+    ensures { λ r. ⌜ r ≡ part op s ⌝ }
+{
+    let r = rectangle_of(s);
+    if operation::to_xy(op) {
+        let window = windows::window_of(s.wstart, s.wend);
+        return windows::clip(pixel::windowing(s.control), r, window, false);
+    }
+    Clipped {
+        left: 0,
+        above: 0,
+        cols: r.cols,
+        rows: r.rows,
+        v: false,
+        request: false,
+    }
+}
+
+// V after the call, by what is drawn.
+pub fn v_at(op: Operation, s: Settings, c: Clipped, v: bool) -> bool
+    ensures { λ r. ⌜ r ≡ vAt op s c v ⌝ }
+{
+    if operation::to_xy(op) & (pixel::windowing(s.control) != 0) {
+        return c.v;
+    }
+    v
+}
+
+// X of an XY start after clipping.
+pub fn start_x(xy: u32, c: Clipped) -> u32
+    ensures { λ r. ⌜ r ≡ startX xy c ⌝ }
+{
+    address::x_of(xy) as u32 + c.left as u32
+}
+
+// Y of an XY start after clipping.
+pub fn start_y(xy: u32, c: Clipped) -> u32
+    ensures { λ r. ⌜ r ≡ startY xy c ⌝ }
+{
+    address::y_of(xy) as u32 + c.above as u32
+}
+
+// Where the destination's walk starts.
+fn dest_start(op: Operation, s: Settings, c: Clipped) -> u32
+    ensures { λ r. ⌜ r ≡ destStart op s c ⌝ }
+{
+    if operation::to_xy(op) {
+        let x = start_x(s.daddr, c);
+        let y = start_y(s.daddr, c);
+        return address::xy_address(s.offset, s.dptch, s.psize, x, y);
+    }
+    s.daddr
+}
+
+// Where the source's walk starts.
+fn src_start(op: Operation, s: Settings, c: Clipped) -> u32
+    ensures { λ r. ⌜ r ≡ srcStart op s c ⌝ }
+{
+    if operation::from_xy(op) {
+        let x = start_x(s.saddr, c);
+        let y = start_y(s.saddr, c);
+        return address::xy_address(s.offset, s.sptch, s.psize, x, y);
+    }
+    let step = engine::step_of(operation::source_of(op), s.psize);
+    moved(s.saddr, c.above, s.sptch, c.left, step)
+}
+
+// A linear start moved by rows and columns.
+fn moved(start: u32, rows: u16, pitch: u32, cols: u16, step: u16) -> u32
+    ensures { λ r. ⌜ r ≡ (start + rows * pitch + cols * step) % 2 ^ 32 ⌝ }
+{
+    let down = (rows as u64) * (pitch as u64);
+    let across = (cols as u64) * (step as u64);
+    ((start as u64 + down + across) % 4294967296) as u32
+}
+
+// The drawing.
+pub fn drawing_of(op: Operation, s: Settings, c: Clipped) -> Drawing
+    ensures { λ r. ⌜ r ≡ drawingOf op s c ⌝ }
+{
+    let source = operation::source_of(op);
+    let dest = dest_start(op, s, c);
+    let src = src_start(op, s, c);
+    let pp = pixel::processing(s.control);
+    let t = pixel::transparency(s.control);
+    Drawing {
+        cols: c.cols,
+        rows: c.rows,
+        dest,
+        dpitch: s.dptch,
+        source,
+        src,
+        spitch: s.sptch,
+        psize: s.psize,
+        pp,
+        t,
+        pmask: s.pmask,
+        color0: (s.color0 % 65536) as u16,
+        color1: (s.color1 % 65536) as u16,
+    }
+}

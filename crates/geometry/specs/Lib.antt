@@ -1,5 +1,0 @@
-pub mod Coordinate
-pub mod Address
-pub mod Window
-pub mod Walk
-pub mod Kept

@@ -1,0 +1,69 @@
+-- A lone pixel (the scope, "Refusal numbers" and "Arrays, windows and slices"): whether PIXT or DRAV is refused, whether there is a
+-- pixel to draw or read, where it is, and the flags. Assumes nothing.
+use mathlib.Core.Bool.{Bool, true, false, cond, not, _&&_, _||_}
+use Prim.Native.Nat.{ℕ, _*_}
+use lib.Dec.{eqb, leb}
+use Rattle.memory.specs.Bits.{noMemory}
+use Rattle.pixel.specs.Control.{windowing, badControl}
+use Rattle.pixel.specs.Pixel.{badPixelSize}
+use Rattle.address.specs.Coordinate.{xOf, yOf, negative}
+use Rattle.address.specs.Address.{xyAddress, badXYPitch, misaligned}
+use Rattle.windows.specs.Window.{windowOf, badWindowing, clipped}
+use Rattle.windows.specs.declared.Clipped.{Clipped}
+use Rattle.settings.specs.declared.Settings.{Settings}
+use Rattle.lone.specs.declared.Lone.{Lone}
+
+-- the lowest refusal number that applies, or 0. 13 is for XY pixels, 14 for XY destinations; 16 and 17 are given where there is a
+-- pixel to draw or read
+unfoldable pub refusal : ℕ → Settings → Bool → Bool → Bool → Bool → ℕ → ℕ
+refusal words s pitch window some start a =
+    cond (noMemory words) 10
+    (cond (badPixelSize (s .psize)) 11
+    (cond (badControl (s .control)) 12
+    (cond pitch 13
+    (cond window 14
+    (cond (some && start) 16
+    (cond (some && leb (16 * words) a) 17 0))))))
+
+-- a pixel at a linear address: no pitch, no window, V is kept
+unfoldable pub linearPixel : ℕ → Settings → ℕ → Bool → Lone
+linearPixel words s a v =
+    record { answer = refusal words s false false true (misaligned (s .psize) a) a; some = true; address = a; v = v; request = false }
+
+-- the linear address of an XY pixel, with DPTCH
+abbrev pub placeOf : Settings → ℕ → ℕ
+placeOf s xy = xyAddress (s .offset) (s .dptch) (s .psize) (xOf xy) (yOf xy)
+
+-- an XY start has a negative X or Y, or its linear address isn't a multiple of PSIZE
+abbrev pub badStart : Settings → ℕ → Bool
+badStart s xy = negative (xOf xy) || (negative (yOf xy) || misaligned (s .psize) (placeOf s xy))
+
+-- an XY pixel that is read: no window, V is kept
+unfoldable pub xySource : ℕ → Settings → ℕ → Bool → Lone
+xySource words s xy v =
+    record {
+      answer = refusal words s (badXYPitch (s .dptch)) false true (badStart s xy) (placeOf s xy);
+      some = true;
+      address = placeOf s xy;
+      v = v;
+      request = false;
+    }
+
+-- for the window one pixel is a 1 by 1 rectangle
+abbrev pub windowed : Settings → ℕ → Bool → Clipped
+windowed s xy v = clipped (windowing (s .control)) (record { x = xOf xy; y = yOf xy; cols = 1; rows = 1 }) (windowOf (s .wstart) (s .wend)) v
+
+-- the window lets the pixel be drawn
+abbrev pub shown : Clipped → Bool
+shown c = not (eqb (c .cols) 0 || eqb (c .rows) 0)
+
+-- an XY pixel that is drawn
+unfoldable pub xyDestination : ℕ → Settings → ℕ → Bool → Lone
+xyDestination words s xy v =
+    record {
+      answer = refusal words s (badXYPitch (s .dptch)) (badWindowing (windowing (s .control)) (windowOf (s .wstart) (s .wend))) (shown (windowed s xy v)) (badStart s xy) (placeOf s xy);
+      some = shown (windowed s xy v);
+      address = placeOf s xy;
+      v = windowed s xy v .v;
+      request = windowed s xy v .request;
+    }

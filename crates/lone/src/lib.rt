@@ -1,0 +1,151 @@
+// A lone pixel: its refusal, whether it is shown, and where it is.
+ghost use mathlib.Core.Path.{_≡_};
+ghost use Rattle.pixel.specs.Control.{windowing};
+ghost use Rattle.windows.specs.Window.{windowOf, badWindowing};
+ghost use Rattle.lone.specs.Lone.{badStart, placeOf, windowed, refusal, linearPixel, xySource, xyDestination};
+use settings::Settings;
+use windows::Clipped;
+use windows::Rectangle;
+
+// A lone pixel: the refusal's number or 0, whether there is a pixel to draw or read, its address, V and the request.
+pub struct Lone {
+    pub answer: u32,
+    pub some: bool,
+    pub address: u32,
+    pub v: bool,
+    pub request: bool,
+}
+
+pub fn linear_pixel(words: usize, s: Settings, address: u32, v: bool) -> Lone
+    ensures { λ r. ⌜ r ≡ linearPixel words s address v ⌝ }
+{
+    let start = address::misaligned(s.psize, address);
+    let answer = refusal_of(words, s, false, false, true, start, address);
+    Lone {
+        answer,
+        some: true,
+        address,
+        v,
+        request: false,
+    }
+}
+
+pub fn xy_source(words: usize, s: Settings, xy: u32, v: bool) -> Lone
+    ensures { λ r. ⌜ r ≡ xySource words s xy v ⌝ }
+{
+    let address = place_of(s, xy);
+    let pitch = address::bad_xy_pitch(s.dptch);
+    let start = bad_start(s, xy, address);
+    let answer = refusal_of(words, s, pitch, false, true, start, address);
+    Lone {
+        answer,
+        some: true,
+        address,
+        v,
+        request: false,
+    }
+}
+
+pub fn xy_destination(words: usize, s: Settings, xy: u32, v: bool) -> Lone
+    ensures { λ r. ⌜ r ≡ xyDestination words s xy v ⌝ }
+{
+    let address = place_of(s, xy);
+    let pitch = address::bad_xy_pitch(s.dptch);
+    let window = window_is_bad(s);
+    let c = windowed(s, xy, v);
+    let some = !((c.cols == 0) | (c.rows == 0));
+    let start = bad_start(s, xy, address);
+    let answer = refusal_of(words, s, pitch, window, some, start, address);
+    Lone {
+        answer,
+        some,
+        address,
+        v: c.v,
+        request: c.request,
+    }
+}
+
+// The refusal's number, or 0.
+fn refusal_of(
+    words: usize,
+    s: Settings,
+    pitch: bool,
+    window: bool,
+    some: bool,
+    start: bool,
+    address: u32,
+) -> u32
+    ensures { λ r. ⌜ r ≡ refusal words s pitch window some start address ⌝ }
+{
+    if memory::no_memory(words) {
+        return 10;
+    }
+    if pixel::bad_pixel_size(s.psize) {
+        return 11;
+    }
+    if pixel::bad_control(s.control) {
+        return 12;
+    }
+    if pitch {
+        return 13;
+    }
+    if window {
+        return 14;
+    }
+    if some & start {
+        return 16;
+    }
+    if some & (16 * (words as u64) <= address as u64) {
+        return 17;
+    }
+    0
+}
+
+// The linear address of an XY pixel.
+fn place_of(s: Settings, xy: u32) -> u32
+    ensures { λ r. ⌜ r ≡ placeOf s xy ⌝ }
+{
+    address::xy_address(
+        s.offset,
+        s.dptch,
+        s.psize,
+        address::x_of(xy) as u32,
+        address::y_of(xy) as u32,
+    )
+}
+
+// Is X or Y negative, or the linear address no multiple of the pixel size?
+fn bad_start(s: Settings, xy: u32, address: u32) -> bool
+    requires { ⌜ address ≡ placeOf s xy ⌝ }
+    ensures { λ r. ⌜ r ≡ badStart s xy ⌝ }
+{
+    address::negative(address::x_of(xy) as u32)
+        | (address::negative(address::y_of(xy) as u32) | address::misaligned(s.psize, address))
+}
+
+// Is the window used, and bad?
+fn window_is_bad(s: Settings) -> bool
+    ensures { λ r. ⌜ r ≡ badWindowing (windowing (s .control)) (windowOf (s .wstart) (s .wend)) ⌝ }
+{
+    windows::bad_windowing(
+        pixel::windowing(s.control),
+        windows::window_of(s.wstart, s.wend),
+    )
+}
+
+fn windowed(s: Settings, xy: u32, v: bool) -> Clipped
+    ensures { λ r. ⌜ r ≡ windowed s xy v ⌝ }
+{
+    let pixel = Rectangle {
+        x: address::x_of(xy),
+        y: address::y_of(xy),
+        cols: 1,
+        rows: 1,
+    };
+    windows::clip(
+        pixel::windowing(s.control),
+        pixel,
+        windows::window_of(s.wstart, s.wend),
+        v,
+    )
+}

@@ -1,0 +1,76 @@
+-- `blend` meets its contract: the enabled bits of the pixel by the operation, put back with or without T.
+use mathlib.Core.Path.{sym, _∙_}
+use mathlib.Core.Bool.{true, false}
+use Prim.Native.Nat.{ℕ, _^_, _≤_, _<_, min}
+use native.Mathlib.Omega.{arith}
+use borrow.Author.Needs.{needs}
+use lib.Bits.{bitAnd, and-le-r}
+use Rattle.pixel.proofs.PixelLaws.{complement-pixelOf-le}
+use Rattle.plot.proofs.WordLaws.{topOf-le, wordAfter-replaced}
+use Rattle.plot.proofs.blend.Statement.{statement}
+use Rattle.plot.proofs.blend.Tie as tie
+
+planes-at-requires : tie.Need-planes-at-requires
+planes-at-requires c κs = search needs
+
+wide-requires : tie.Need-wide-requires
+wide-requires c κs = search needs
+
+shifted-requires : tie.Need-shifted-requires
+shifted-requires c κs = search needs
+
+-- no bit is enabled above the pixel, and a pixel has at most 16
+planes-le : (c : tie.After-planes-at) → (c .planes-at .result ≤ c .before .args .top) × (c .before .args .top ≤ 65535)
+planes-le c = (rw (c .planes-at .ensures) (complement-pixelOf-le _ _ _), rw (c .before .pre) (topOf-le (c .before .args .d .psize)))
+
+-- a number cut to the enabled bits, or to all of the pixel's
+cut-le : (c : tie.After-planes-at) (x : ℕ) → (bitAnd x (c .planes-at .result) ≤ c .planes-at .result) × (bitAnd x (c .before .args .top) ≤ c .before .args .top)
+cut-le c x = (and-le-r x (c .planes-at .result), and-le-r x (c .before .args .top))
+
+process-requires : tie.Need-process-requires
+process-requires c κs =
+    let p = c .before .before in
+    (p .before .pre, omega (arith, planes-le p, cut-le p (p .before .args .s)), omega (arith, planes-le p, cut-le p (c .shifted .result)))
+
+unless-zero-requires : tie.Need-unless-zero-requires
+unless-zero-requires c κs =
+    let p = c .before .before .before .before in
+    (omega (arith, planes-le p), omega (arith, planes-le p, cut-le p (c .before .process .result), cut-le p (p .before .args .s)))
+
+returns : tie.Need-returns
+returns c =
+    let q = c .before .before in
+    let p = q .before .before .before in
+    let a = p .before .args in
+    let h : a .word < 2 ^ 16 = omega arith in
+    c .unless-zero .ensures
+    ∙ rw (q .process .ensures, q .before .shifted .ensures, q .before .before .wide .ensures, p .planes-at .ensures, p .before .pre, c .before .if1 .taken)
+    (sym (wordAfter-replaced (min (a .d .psize) 16) (a .d .pmask) (a .address) (a .word) h (a .d .pp) true (a .s)))
+
+replace-requires : tie.Need-replace-requires
+replace-requires c κs =
+    let p = c .before .before .before .before in
+    (omega (arith, planes-le p), omega (arith, planes-le p, cut-le p (c .before .process .result)))
+
+returns-2 : tie.Need-returns-2
+returns-2 c =
+    let q = c .before .before in
+    let p = q .before .before .before in
+    let a = p .before .args in
+    let h : a .word < 2 ^ 16 = omega arith in
+    c .replace .ensures
+    ∙ rw (q .process .ensures, q .before .shifted .ensures, q .before .before .wide .ensures, p .planes-at .ensures, p .before .pre, c .before .if1 .left)
+    (sym (wordAfter-replaced (min (a .d .psize) 16) (a .d .pmask) (a .address) (a .word) h (a .d .pp) false (a .s)))
+
+pub blend-spec : {M : Type 1} → statement M
+blend-spec =
+    tie.close
+    (tie.spec
+    planes-at-requires
+    wide-requires
+    shifted-requires
+    process-requires
+    unless-zero-requires
+    returns
+    replace-requires
+    returns-2)

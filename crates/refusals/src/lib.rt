@@ -1,0 +1,120 @@
+// The refusals 10 to 17 of a FILL or PIXBLT call.
+ghost use mathlib.Core.Path.{_≡_};
+ghost use mathlib.Core.Bool.{_||_};
+ghost use Rattle.refusals.specs.Refusal.{badPitch, badPitches, badWindowOf, negativeStart, badDest, badSource, leaves, refusalOf};
+use operation::Operation;
+use plot::Drawing;
+use settings::Settings;
+use windows::Clipped;
+
+// The refusal's number, or 0.
+pub fn refusal_of(
+    op: Operation,
+    s: Settings,
+    c: Clipped,
+    d: Drawing,
+    place: u64,
+    words: usize,
+) -> u32
+    ensures { λ r. ⌜ r ≡ refusalOf op s c d place words ⌝ }
+{
+    if memory::no_memory(words) {
+        return 10;
+    }
+    if pixel::bad_pixel_size(s.psize) {
+        return 11;
+    }
+    if pixel::bad_control(s.control) {
+        return 12;
+    }
+    if bad_pitches(op, s) {
+        return 13;
+    }
+    if bad_window_of(op, s) {
+        return 14;
+    }
+    let n = engine::pixels(d);
+    if n < place {
+        return 15;
+    }
+    if (n != 0) & bad_start(op, s, c, d) {
+        return 16;
+    }
+    if leaves(words, op, d) {
+        return 17;
+    }
+    0
+}
+
+fn bad_pitch(xy: bool, pitch: u32) -> bool
+    ensures { λ r. ⌜ r ≡ badPitch xy pitch ⌝ }
+{
+    if xy {
+        address::bad_xy_pitch(pitch)
+    } else {
+        address::bad_linear_pitch(pitch)
+    }
+}
+
+fn bad_pitches(op: Operation, s: Settings) -> bool
+    ensures { λ r. ⌜ r ≡ badPitches op s ⌝ }
+{
+    let to = bad_pitch(operation::to_xy(op), s.dptch);
+    let from = bad_pitch(operation::from_xy(op), s.sptch);
+    let pixels = operation::copies_pixels(operation::source_of(op));
+    to | (pixels & from)
+}
+
+fn bad_window_of(op: Operation, s: Settings) -> bool
+    ensures { λ r. ⌜ r ≡ badWindowOf op s ⌝ }
+{
+    let bad = windows::bad_windowing(
+        pixel::windowing(s.control),
+        windows::window_of(s.wstart, s.wend),
+    );
+    operation::to_xy(op) & bad
+}
+
+// Does an XY start after clipping have a negative X or Y?
+fn negative_start(xy: u32, c: Clipped) -> bool
+    ensures { λ r. ⌜ r ≡ negativeStart xy c ⌝ }
+{
+    let x = arrays::start_x(xy, c);
+    let y = arrays::start_y(xy, c);
+    address::negative(x) | address::negative(y)
+}
+
+fn bad_dest(op: Operation, s: Settings, c: Clipped, d: Drawing) -> bool
+    ensures { λ r. ⌜ r ≡ badDest op s c d ⌝ }
+{
+    let below = negative_start(s.daddr, c);
+    let uneven = address::misaligned(s.psize, d.dest);
+    (operation::to_xy(op) & below) | uneven
+}
+
+fn bad_source(op: Operation, s: Settings, c: Clipped, d: Drawing) -> bool
+    ensures { λ r. ⌜ r ≡ badSource op s c d ⌝ }
+{
+    let below = negative_start(s.saddr, c);
+    let uneven = address::misaligned(s.psize, d.src);
+    let pixels = operation::copies_pixels(operation::source_of(op));
+    pixels & ((operation::from_xy(op) & below) | uneven)
+}
+
+// Does some pixel or source bit lie past the memory's end?
+fn leaves(words: usize, op: Operation, d: Drawing) -> bool
+    ensures { λ r. ⌜ r ≡ leaves words op d ⌝ }
+{
+    let source = operation::source_of(op);
+    let step = engine::step_of(source, d.psize);
+    let dest = walk::leaves_memory(words, d.dest, d.cols, d.rows, d.dpitch, d.psize);
+    let src = walk::leaves_memory(words, d.src, d.cols, d.rows, d.spitch, step);
+    let copy = operation::copies(source);
+    dest | (copy & src)
+}
+
+fn bad_start(op: Operation, s: Settings, c: Clipped, d: Drawing) -> bool
+    ensures { λ r. ⌜ r ≡ (badDest op s c d || badSource op s c d) ⌝ }
+{
+    bad_dest(op, s, c, d) | bad_source(op, s, c, d)
+}
