@@ -84,7 +84,7 @@ fn src_start(op: Operation, s: Settings, c: Clipped) -> u32
         let y = start_y(s.saddr, c);
         return address::xy_address(s.offset, s.sptch, s.psize, x, y);
     }
-    let step = engine::step_of(operation::source_of(op), s.psize);
+    let step = plot::step_of(operation::source_of(op), s.psize);
     moved(s.saddr, c.above, s.sptch, c.left, step)
 }
 

@@ -10,7 +10,8 @@ use Rattle.windows.specs.Window.{windowOf, common}
 use Rattle.windows.specs.declared.Rectangle.{Rectangle}
 use Rattle.windows.specs.declared.Clipped.{Clipped}
 use Rattle.settings.specs.declared.Settings.{Settings}
-use Rattle.engine.specs.Engine.{pixels, visits, visitedFrom}
+use Rattle.plot.specs.Drawing.{pixels}
+use Rattle.engine.specs.Engine.{visits, visitedFrom}
 use Rattle.plot.specs.declared.Drawing.{Drawing}
 use Rattle.operation.specs.declared.Operation.{Operation}
 use Rattle.drawing.specs.declared.Outcome.{Outcome}

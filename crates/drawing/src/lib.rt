@@ -4,7 +4,7 @@ ghost use mathlib.Core.Bool.{cond, _&&_};
 ghost use lib.Dec.{eqb};
 ghost use lib.ListN.{length};
 ghost use Prim.Native.Nat.{_+_, _≤_};
-ghost use Rattle.engine.specs.Engine.{pixels};
+ghost use Rattle.plot.specs.Drawing.{pixels};
 ghost use Rattle.operation.specs.Operation.{sourceOf, copies};
 ghost use Rattle.drawing.specs.Draw.{refused, commonOf, doneSome, rowAfter, outcomeAt, outcome, drawn};
 use operation::Operation;
@@ -56,7 +56,7 @@ fn row_after(start: u32, rows: u16, pitch: u32) -> u32
 fn done_some(d: Drawing, place: u64) -> bool
     ensures { λ r. ⌜ r ≡ doneSome d place ⌝ }
 {
-    let n = engine::pixels(d);
+    let n = plot::pixels(d);
     (place == n) & (n != 0)
 }
 
@@ -101,7 +101,7 @@ fn place_after(d: Drawing, place: u64, visited: u64) -> u64
 fn answer_at(d: Drawing, place: u64) -> u32
     ensures { λ r. ⌜ r ≡ cond (eqb place (pixels d)) 0 1 ⌝ }
 {
-    if place == engine::pixels(d) { 0 } else { 1 }
+    if place == plot::pixels(d) { 0 } else { 1 }
 }
 
 // A call that is not refused, at its new place.

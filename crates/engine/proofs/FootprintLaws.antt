@@ -16,10 +16,11 @@ use Rattle.pixel.proofs.Footprint.{plotted-frame, plotted-depend}
 use Rattle.plot.specs.declared.Source.{Source}
 use Rattle.plot.specs.declared.Source.the-variants.{Color, Pixels, Bits}
 use Rattle.plot.specs.declared.Drawing.{Drawing}
-use Rattle.engine.specs.Engine.{destOf, srcOf, colorAt, sourceAt, drawnAt, visit}
+use Rattle.engine.specs.Engine.{destOf, srcOf, visit}
+use Rattle.row.specs.Row.{colorAt, sourceAt, drawnAt}
 use Rattle.engine.specs.Footprint.{PixelWrites, PixelReads, pixel-bit, source-bit}
-use Rattle.engine.proofs.SourceLaws.{source-color, source-pixels, source-bits}
-use Rattle.engine.proofs.VisitsLaws.{memory-drawnAt}
+use Rattle.row.proofs.SourceLaws.{source-color, source-pixels, source-bits}
+use Rattle.row.proofs.DrawnLaws.{memory-drawnAt}
 
 module _ (n : ℕ) (d : Drawing) (i : ℕ) where
   pub memory-visit : {m : List ℕ} → Memory n m → Memory n (visit d i m)

@@ -8,9 +8,11 @@ use native.Mathlib.Omega.{arith}
 use lib.Arith.{digits-div, digits-mod}
 use Rattle.walk.specs.Walk.{addressOf}
 use Rattle.plot.specs.declared.Drawing.{Drawing}
-use Rattle.engine.specs.Engine.{stepOf, srcOf, destOf, visits}
+use Rattle.plot.specs.Drawing.{stepOf}
+use Rattle.engine.specs.Engine.{srcOf, destOf, visits}
+use Rattle.row.specs.Row.{rowDrawn}
+use Rattle.engine.proofs.RowLaws.{row-visits}
 use Rattle.engine.proofs.VisitsLaws.{visits-none, visits-add}
-use Rattle.engine.proofs.Drawn.{Given}
 
 -- cols more: the same column of the next row
 next-mod : (cols i : ℕ) → 0 < cols → (i + cols) % cols ≡ i % cols
@@ -45,21 +47,19 @@ pub record AtRow (d : Drawing) (from to i : ℕ) : Type 0 where
   pub from-is : from ≡ srcOf d i
   pub to-is : to ≡ destOf d i
 
-pub record Rows (m₀ : List ℕ) (d : Drawing) (colors : List ℕ) (step k n : ℕ) (m : List ℕ) (from to i : ℕ) : Type 0 where
-  pub given : Given d colors step
+pub record Rows (m₀ : List ℕ) (d : Drawing) (k n : ℕ) (m : List ℕ) (from to i : ℕ) : Type 0 where
   pub pos : 0 < d .cols
   pub end-lt : k + n < 2 ^ 32
   pub bound : i ≤ n
   pub drawn : m ≡ visits d k i m₀
   pub at : i < n → AtRow d from to (k + i)
 
-module _ {m₀ : List ℕ} {d : Drawing} {colors : List ℕ} {step k n : ℕ} where
-  pub no-rows : {from to : ℕ} → Given d colors step → 0 < d .cols → k + n < 2 ^ 32 → k % d .cols ≡ 0 → from ≡ srcOf d k → to ≡ destOf d k
-      → Rows m₀ d colors step k n m₀ from to 0
-  no-rows {from} {to} g p h z f t =
+module _ {m₀ : List ℕ} {d : Drawing} {k n : ℕ} where
+  pub no-rows : {from to : ℕ} → 0 < d .cols → k + n < 2 ^ 32 → k % d .cols ≡ 0 → from ≡ srcOf d k → to ≡ destOf d k
+      → Rows m₀ d k n m₀ from to 0
+  no-rows {from} {to} p h z f t =
       let e : k ≡ k + 0 = omega arith in
       record {
-        given = g;
         pos = p;
         end-lt = h;
         bound = omega arith;
@@ -67,7 +67,7 @@ module _ {m₀ : List ℕ} {d : Drawing} {colors : List ℕ} {step k n : ℕ} wh
         at = λ l. rw (← e) (record { first = z; from-is = f; to-is = t });
       }
 
-  module _ {m : List ℕ} {from to i count : ℕ} (inv : Rows m₀ d colors step k n m from to i) (more : i < n) (e : count ≡ min (d .cols) (n - i)) where
+  module _ {m : List ℕ} {from to i count : ℕ} (inv : Rows m₀ d k n m from to i) (more : i < n) (e : count ≡ min (d .cols) (n - i)) where
     pub rows-some : 0 < count
     rows-some = omega (arith, e, inv .pos)
 
@@ -77,14 +77,17 @@ module _ {m₀ : List ℕ} {d : Drawing} {colors : List ℕ} {step k n : ℕ} wh
     pub rows-end : i + count ≤ n
     rows-end = omega (arith, e)
 
-    pub next-rows : {m′ : List ℕ} {from′ to′ : ℕ} → m′ ≡ visits d (k + i) count m → from′ ≡ (from + d .spitch) % 2 ^ 32 → to′ ≡ (to + d .dpitch) % 2 ^ 32
-        → Rows m₀ d colors step k n m′ from′ to′ (i + count)
+    -- the row drawn is its pixels visited
+    rows-drawn : rowDrawn d from to count m ≡ visits d (k + i) count m
+    rows-drawn = rw (inv .at more .from-is, inv .at more .to-is) (row-visits d (k + i) count m rows-row)
+
+    pub next-rows : {m′ : List ℕ} {from′ to′ : ℕ} → m′ ≡ rowDrawn d from to count m → from′ ≡ (from + d .spitch) % 2 ^ 32 → to′ ≡ (to + d .dpitch) % 2 ^ 32
+        → Rows m₀ d k n m′ from′ to′ (i + count)
     next-rows {m′} {from′} {to′} v f t = record {
-      given = inv .given;
       pos = inv .pos;
       end-lt = inv .end-lt;
       bound = rows-end;
-      drawn = v ∙ ap (visits d (k + i) count) (inv .drawn) ∙ sym (visits-add d k i count m₀);
+      drawn = v ∙ rows-drawn ∙ ap (visits d (k + i) count) (inv .drawn) ∙ sym (visits-add d k i count m₀);
       at = next;
     }
       where

@@ -10,31 +10,20 @@ use native.Mathlib.Omega.{arith}
 use lib.ListN.{length}
 use Rattle.memory.specs.Bits.{Memory}
 use Rattle.pixel.specs.Pixel.{topOf, plotted}
-use Rattle.pixel.proofs.PixelLaws.{length-plotted, memory-plotted}
 use Rattle.walk.specs.Walk.{addressOf}
-use Rattle.address.proofs.Arithmetic.{product-lt}
 use Rattle.plot.specs.declared.Source.the-variants.{Color}
 use Rattle.plot.specs.declared.Drawing.{Drawing}
-use Rattle.engine.specs.Engine.{pixels, visitedFrom, srcOf, destOf, colorAt, drawnAt, visit, visits}
-use Rattle.engine.proofs.SourceLaws.{source-color}
-
-pub pixels-lt : (d : Drawing) → d .cols < 2 ^ 16 → d .rows < 2 ^ 16 → pixels d < 2 ^ 32
-pixels-lt d hc hr = product-lt 16 16 hc hr
+use Rattle.plot.specs.Drawing.{pixels}
+use Rattle.engine.specs.Engine.{visitedFrom, srcOf, destOf, visit, visits}
+use Rattle.row.specs.Row.{colorAt, drawnAt}
+use Rattle.row.proofs.SourceLaws.{source-color}
+use Rattle.row.proofs.DrawnLaws.{length-drawnAt, memory-drawnAt}
 
 -- where some pixel is visited, there is a column, and the pixels visited are the drawing's
 pub visited-some : (d : Drawing) (k b : ℕ) {c : ℕ} → c ≡ visitedFrom d k b → (c ≡ 0 → ⊥) → (0 < d .cols) × (k + c ≤ pixels d)
 visited-some d k b {c} e n =
     let some : d .cols ≡ 0 → ⊥ = λ z. n (e ∙ omega (arith, ap (λ (x : ℕ). x * d .rows) z, zero-mul (d .rows))) in
     (pos-of-ne-zero some, omega (arith, e, n))
-
-module _ (d : Drawing) (from to : ℕ) where
-  pub length-drawnAt : (m : List ℕ) → length (drawnAt d from to m) ≡ length m
-  unfolding drawnAt
-  length-drawnAt m = length-plotted (d .pp) (d .t) _ (d .pmask) to _ m
-
-  pub memory-drawnAt : {n : ℕ} {m : List ℕ} → Memory n m → Memory n (drawnAt d from to m)
-  unfolding drawnAt
-  memory-drawnAt g = memory-plotted (d .pp) (d .t) _ (d .pmask) to _ g
 
 module _ (d : Drawing) (k : ℕ) where
   pub visits-none : (m : List ℕ) → visits d k 0 m ≡ m

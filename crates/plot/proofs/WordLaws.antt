@@ -15,7 +15,7 @@ use Rattle.pixel.specs.PixelOp.{complement, processed}
 use Rattle.pixel.specs.Pixel.{topOf, pixelOf, unmasked, result, pixelAfter, withPixel, wordAfter}
 use Rattle.pixel.proofs.BitwiseLaws.{bit-cases, bit-and, bit-or, and-one, bit-complement}
 use Rattle.pixel.proofs.PixelLaws.{pixelOf-le, pixelOf-lt, complement-pixelOf-le}
-use Rattle.plot.specs.Row.{replaced}
+use Rattle.plot.specs.Word.{replaced}
 
 -- ---- sums cut to P bits
 pub topOf-le : (p : ℕ) → topOf p ≤ 65535

@@ -1,12 +1,11 @@
 // A drawing, and a pixel of it drawn into its word.
 ghost use mathlib.Core.Path.{_≡_};
-ghost use mathlib.Core.Bool.{cond};
 ghost use Prim.Native.Nat.{suc, _+_, _-_, _*_, _/_, _%_, _^_, _≤_, _<_, min, max};
 ghost use lib.Bits.{bitAnd};
-ghost use lib.Dec.{eqb};
 ghost use Rattle.pixel.specs.PixelOp.{complement, processed};
 ghost use Rattle.pixel.specs.Pixel.{topOf, pixelOf, wordAfter};
-ghost use Rattle.plot.specs.Row.{replaced};
+ghost use Rattle.plot.specs.Drawing.{pixels, stepOf};
+ghost use Rattle.plot.specs.Word.{replaced};
 
 // What a destination pixel is drawn from: COLOR1, a source pixel, or one bit that chooses COLOR1 or COLOR0.
 pub enum Source {
@@ -30,6 +29,24 @@ pub struct Drawing {
     pub pmask: u16,
     pub color0: u16,
     pub color1: u16,
+}
+
+// The pixels of a drawing.
+pub fn pixels(d: Drawing) -> u64
+    ensures { λ r. ⌜ r ≡ pixels d ⌝ }
+{
+    (d.cols as u64) * (d.rows as u64)
+}
+
+// From one source pixel to the next: PSIZE bits, or one bit of a B source.
+pub fn step_of(source: Source, psize: u16) -> u16
+    ensures { λ r. ⌜ r ≡ stepOf source psize ⌝ }
+{
+    match source {
+        Source::Color => 0,
+        Source::Pixels => psize,
+        Source::Bits => 1,
+    }
 }
 
 // A word at an address's place in it.
@@ -61,8 +78,9 @@ fn blend(d: Drawing, top: u32, address: u32, s: u32, word: u16) -> u16
     let planes = planes_at(d, top, address);
     let old = shifted(wide(word), address) & planes;
     let result = process(d, top, s & planes, old) & planes;
-    if d.t {
-        return unless_zero(word, address, planes, result);
+    // T: where the result is 0 nothing is written.
+    if d.t & (result == 0) {
+        return word;
     }
     replace(word, address, planes, result)
 }
@@ -73,18 +91,6 @@ fn planes_at(d: Drawing, top: u32, address: u32) -> u32
     ensures { λ r. ⌜ r ≡ complement top (pixelOf top (d .pmask) address) ⌝ }
 {
     shifted(wide(d.pmask) ^ 4294967295, address) & top
-}
-
-// T: where the result is 0 nothing is written.
-fn unless_zero(word: u16, address: u32, planes: u32, result: u32) -> u16
-    requires { ⌜ (planes < 2 ^ 16) × (result < 2 ^ 16) ⌝ }
-    ensures { λ r. ⌜ r ≡ cond (eqb result 0) word (replaced word address planes result) ⌝ }
-{
-    if result == 0 {
-        word
-    } else {
-        replace(word, address, planes, result)
-    }
 }
 
 // The word with a result in the place of the enabled bits of its pixel at an address.
@@ -141,7 +147,7 @@ fn add(w: Drawing, top: u32, s: u32, d: u32) -> u32
 
 // PP 17: the lesser of S + D and top.
 fn add_saturated(top: u32, s: u32, d: u32) -> u32
-    requires { ⌜ (s ≤ top) × (d ≤ top) ⌝ }
+    requires { ⌜ (s ≤ top) × (d ≤ top) × (top < 2 ^ 16) ⌝ }
     ensures { λ r. ⌜ r ≡ min (s + d) top ⌝ }
 {
     s + lesser(d, top - s)

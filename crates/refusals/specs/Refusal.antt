@@ -11,7 +11,7 @@ use Rattle.windows.specs.Window.{windowOf, badWindowing}
 use Rattle.walk.specs.Walk.{leavesMemory}
 use Rattle.windows.specs.declared.Clipped.{Clipped}
 use Rattle.settings.specs.declared.Settings.{Settings}
-use Rattle.engine.specs.Engine.{pixels, stepOf}
+use Rattle.plot.specs.Drawing.{pixels, stepOf}
 use Rattle.plot.specs.declared.Drawing.{Drawing}
 use Rattle.operation.specs.declared.Operation.{Operation}
 use Rattle.operation.specs.Operation.{toXY, fromXY, sourceOf, copies, copiesPixels}

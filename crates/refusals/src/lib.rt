@@ -33,17 +33,14 @@ pub fn refusal_of(
     if bad_window_of(op, s) {
         return 14;
     }
-    let n = engine::pixels(d);
+    let n = plot::pixels(d);
     if n < place {
         return 15;
     }
     if (n != 0) & bad_start(op, s, c, d) {
         return 16;
     }
-    if leaves(words, op, d) {
-        return 17;
-    }
-    0
+    if leaves(words, op, d) { 17 } else { 0 }
 }
 
 fn bad_pitch(xy: bool, pitch: u32) -> bool
@@ -106,7 +103,7 @@ fn leaves(words: usize, op: Operation, d: Drawing) -> bool
     ensures { λ r. ⌜ r ≡ leaves words op d ⌝ }
 {
     let source = operation::source_of(op);
-    let step = engine::step_of(source, d.psize);
+    let step = plot::step_of(source, d.psize);
     let dest = walk::leaves_memory(words, d.dest, d.cols, d.rows, d.dpitch, d.psize);
     let src = walk::leaves_memory(words, d.src, d.cols, d.rows, d.spitch, step);
     let copy = operation::copies(source);

@@ -9,7 +9,8 @@ use Rattle.address.specs.Address.{xyAddress, badXYPitch}
 use Rattle.windows.specs.Window.{common, clipped}
 use Rattle.walk.specs.Walk.{addressOf, reaches, leavesMemory}
 use Rattle.settings.specs.Settings.{settingsOf}
-use Rattle.engine.specs.Engine.{sourceAt, drawnAt, visits}
+use Rattle.row.specs.Row.{sourceAt, drawnAt}
+use Rattle.engine.specs.Engine.{visits}
 use Rattle.arrays.specs.Array.{part, vAfter, destStart, srcStart, drawingOf}
 use Rattle.refusals.specs.Refusal.{refusalOf, refusal}
 use Rattle.drawing.specs.Draw.{outcomeAt, outcome, drawn}

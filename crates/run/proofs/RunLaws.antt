@@ -16,8 +16,8 @@ use Rattle.windows.specs.Window.{whole as whole·rectangle}
 use Rattle.windows.specs.declared.Clipped.{Clipped}
 use Rattle.windows.proofs.WindowLaws.{Fits, clipped-fits}
 use Rattle.settings.specs.declared.Settings.{Settings}
-use Rattle.engine.specs.Engine.{pixels}
-use Rattle.engine.proofs.VisitsLaws.{pixels-lt}
+use Rattle.plot.specs.Drawing.{pixels}
+use Rattle.plot.proofs.DrawingLaws.{pixels-lt}
 use Rattle.operation.specs.declared.Operation.{Operation}
 use Rattle.operation.specs.Operation.{toXY}
 use Rattle.arrays.specs.Array.{rectangleOf, part, drawingOf, drawingFor}

@@ -13,7 +13,8 @@ use Rattle.windows.specs.Window.{windowOf, clipped, whole, nothing, empty, meet
 use Rattle.windows.specs.declared.Rectangle.{Rectangle}
 use Rattle.windows.specs.declared.Window.{Window}
 use Rattle.settings.specs.declared.Settings.{Settings}
-use Rattle.engine.specs.Engine.{pixels, visit, visits}
+use Rattle.plot.specs.Drawing.{pixels}
+use Rattle.engine.specs.Engine.{visit, visits}
 use Rattle.operation.specs.declared.Operation.{Operation}
 use Rattle.drawing.specs.declared.Outcome.{Outcome}
 use Rattle.operation.specs.Operation.{toXY}

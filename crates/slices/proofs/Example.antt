@@ -12,7 +12,8 @@ use Rattle.pixel.specs.Pixel.{pixelOf, result, pixelAfter, withPixel, wordAfter
 use Rattle.address.specs.Address.{xyAddress, badXYPitch}
 use Rattle.windows.specs.Window.{common, clipped}
 use Rattle.walk.specs.Walk.{addressOf, reaches, leavesMemory}
-use Rattle.engine.specs.Engine.{sourceAt, drawnAt, visits}
+use Rattle.row.specs.Row.{sourceAt, drawnAt}
+use Rattle.engine.specs.Engine.{visits}
 use Rattle.engine.specs.Footprint.{pixel-bit, source-bit}
 use Rattle.operation.specs.declared.Operation.the-variants.{FillXY, PixbltLL}
 use Rattle.operation.specs.Operation.{copies, copiesPixels}

@@ -17,7 +17,8 @@ use Rattle.walk.proofs.WalkLaws.{addressOf-room, lt-of-leavesMemory}
 use Rattle.settings.specs.declared.Settings.{Settings}
 use Rattle.plot.specs.declared.Source.{Source}
 use Rattle.plot.specs.declared.Source.the-variants.{Pixels}
-use Rattle.engine.specs.Engine.{pixels, stepOf, destOf, srcOf, visit}
+use Rattle.plot.specs.Drawing.{pixels, stepOf}
+use Rattle.engine.specs.Engine.{destOf, srcOf, visit}
 use Rattle.engine.specs.Footprint.{PixelWrites, PixelReads}
 use Rattle.engine.proofs.FootprintLaws.{memory-visit, visit-frame, visit-depend}
 use Rattle.operation.specs.declared.Operation.{Operation}

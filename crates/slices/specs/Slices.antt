@@ -6,7 +6,8 @@ use mathlib.Core.List.{List}
 use Prim.Native.Nat.{ℕ}
 use lib.ListN.{length}
 use Rattle.settings.specs.declared.Settings.{Settings}
-use Rattle.engine.specs.Engine.{pixels, visit}
+use Rattle.plot.specs.Drawing.{pixels}
+use Rattle.engine.specs.Engine.{visit}
 use Rattle.engine.specs.Footprint.{PixelWrites, PixelReads}
 use Rattle.plot.specs.declared.Drawing.{Drawing}
 use Rattle.operation.specs.declared.Operation.{Operation}

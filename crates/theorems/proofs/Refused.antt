@@ -10,7 +10,7 @@ use Rattle.image.specs.Image.{imaged}
 use Rattle.cache.specs.Cache.{fetched}
 use Rattle.pixt.specs.Pixt.{pixtTo, pixtFrom}
 use Rattle.drav.specs.Drav.{dravOf}
-use Rattle.engine.specs.Engine.{pixels}
+use Rattle.plot.specs.Drawing.{pixels}
 use Rattle.arrays.specs.Array.{drawingFor}
 use Rattle.drawing.specs.Draw.{outcomeAt, visitedBy, outcome, drawn}
 use Rattle.theorems.specs.Refused.{DrawRefused, DrawAccepted, PixtRefused, DravRefused, WriteRefused, ImageRefused, FetchRefused}

@@ -6,7 +6,8 @@ use borrow.Author.Needs.{needs}
 use borrow.Author.Tests.{eq-eqb, ne-eqb}
 use lib.ListN.{length}
 use Rattle.windows.specs.declared.Clipped.{Clipped}
-use Rattle.engine.specs.Engine.{pixels, visits, visitedFrom}
+use Rattle.plot.specs.Drawing.{pixels}
+use Rattle.engine.specs.Engine.{visits, visitedFrom}
 use Rattle.plot.specs.declared.Drawing.{Drawing}
 use Rattle.arrays.specs.Array.{part, vAt, vAfter, drawingOf, drawingFor}
 use Rattle.refusals.specs.Refusal.{refusalOf, refusal}

@@ -2,7 +2,7 @@
 use Prim.Native.Nat.{_^_, _<_}
 use native.Mathlib.Omega.{arith}
 use borrow.Author.Needs.{needs}
-use Rattle.engine.proofs.VisitsLaws.{pixels-lt}
+use Rattle.plot.proofs.DrawingLaws.{pixels-lt}
 use Rattle.drawing.proofs.place_after.Statement.{statement}
 use Rattle.drawing.proofs.place_after.Tie as tie
 

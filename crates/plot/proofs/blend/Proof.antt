@@ -1,11 +1,14 @@
 -- `blend` meets its contract: the enabled bits of the pixel by the operation, put back with or without T.
-use mathlib.Core.Path.{sym, _∙_}
-use mathlib.Core.Bool.{true, false}
+use mathlib.Core.Path.{_≡_, sym, ap, _∙_}
+use mathlib.Core.Bool.{Bool, true, false, cond, _&&_}
 use Prim.Native.Nat.{ℕ, _^_, _≤_, _<_, min}
 use native.Mathlib.Omega.{arith}
 use borrow.Author.Needs.{needs}
 use lib.Bits.{bitAnd, and-le-r}
+use lib.Dec.{eqb}
+use Rattle.pixel.specs.Pixel.{wordAfter}
 use Rattle.pixel.proofs.PixelLaws.{complement-pixelOf-le}
+use Rattle.plot.specs.Word.{replaced}
 use Rattle.plot.proofs.WordLaws.{topOf-le, wordAfter-replaced}
 use Rattle.plot.proofs.blend.Statement.{statement}
 use Rattle.plot.proofs.blend.Tie as tie
@@ -32,35 +35,31 @@ process-requires c κs =
     let p = c .before .before in
     (p .before .pre, omega (arith, planes-le p, cut-le p (p .before .args .s)), omega (arith, planes-le p, cut-le p (c .shifted .result)))
 
-unless-zero-requires : tie.Need-unless-zero-requires
-unless-zero-requires c κs =
-    let p = c .before .before .before .before in
-    (omega (arith, planes-le p), omega (arith, planes-le p, cut-le p (c .before .process .result), cut-le p (p .before .args .s)))
-
-returns : tie.Need-returns
-returns c =
-    let q = c .before .before in
-    let p = q .before .before .before in
+-- the definition's word, by the result that the code has and by what its test says
+defined : (c : tie.After-process) (b : Bool)
+    → (let a = c .before .before .before .before .args in
+    let planes : ℕ = c .before .before .before .planes-at .result in
+    let r : ℕ = bitAnd (c .process .result) planes in
+    (a .d .t && eqb r 0) ≡ b
+    → wordAfter (a .d .pp) (a .d .t) (a .top) (a .d .pmask) (a .address) (bitAnd (a .s) (a .top)) (a .word) ≡ cond b (a .word) (replaced (a .word) (a .address) planes r))
+defined c b e =
+    let p = c .before .before .before in
     let a = p .before .args in
     let h : a .word < 2 ^ 16 = omega arith in
-    c .unless-zero .ensures
-    ∙ rw (q .process .ensures, q .before .shifted .ensures, q .before .before .wide .ensures, p .planes-at .ensures, p .before .pre, c .before .if1 .taken)
-    (sym (wordAfter-replaced (min (a .d .psize) 16) (a .d .pmask) (a .address) (a .word) h (a .d .pp) true (a .s)))
+    rw (sym e, c .process .ensures, c .before .shifted .ensures, c .before .before .wide .ensures, p .planes-at .ensures, p .before .pre)
+    (wordAfter-replaced (min (a .d .psize) 16) (a .d .pmask) (a .address) (a .word) h (a .d .pp) (a .d .t) (a .s))
+
+returns : tie.Need-returns
+returns c = sym (defined (c .before .before) true (c .if1 .taken))
 
 replace-requires : tie.Need-replace-requires
 replace-requires c κs =
-    let p = c .before .before .before .before in
-    (omega (arith, planes-le p), omega (arith, planes-le p, cut-le p (c .before .process .result)))
-
-returns-2 : tie.Need-returns-2
-returns-2 c =
     let q = c .before .before in
     let p = q .before .before .before in
-    let a = p .before .args in
-    let h : a .word < 2 ^ 16 = omega arith in
-    c .replace .ensures
-    ∙ rw (q .process .ensures, q .before .shifted .ensures, q .before .before .wide .ensures, p .planes-at .ensures, p .before .pre, c .before .if1 .left)
-    (sym (wordAfter-replaced (min (a .d .psize) 16) (a .d .pmask) (a .address) (a .word) h (a .d .pp) false (a .s)))
+    (omega (arith, planes-le p), omega (arith, planes-le p, cut-le p (q .process .result)))
+
+returns-2 : tie.Need-returns-2
+returns-2 c = c .replace .ensures ∙ sym (defined (c .before .before .before) false (c .before .if1 .left))
 
 pub blend-spec : {M : Type 1} → statement M
 blend-spec =
@@ -70,7 +69,6 @@ blend-spec =
     wide-requires
     shifted-requires
     process-requires
-    unless-zero-requires
     returns
     replace-requires
     returns-2)

@@ -1,9 +1,11 @@
 -- `process` meets its contract. Assumes nothing.
 use mathlib.Core.Path.{sym}
+use native.Mathlib.Omega.{arith}
 use borrow.Author.Needs.{needs}
 use lib.ListN.{List·getD-eq-default}
 use Rattle.pixel.specs.PixelOp.{processed, operations}
 use Rattle.pixel.proofs.PixelOpLaws.{past}
+use Rattle.plot.proofs.WordLaws.{topOf-le}
 use Rattle.plot.proofs.process.Statement.{statement}
 use Rattle.plot.proofs.process.Tie as tie
 
@@ -11,7 +13,9 @@ add-requires : tie.Need-add-requires
 add-requires c κs = search needs
 
 add-saturated-requires : tie.Need-add-saturated-requires
-add-saturated-requires c κs = search needs
+add-saturated-requires c κs =
+    let p = c .before .pre in
+    (p .1, p .2, omega (arith, p .0, topOf-le (c .before .args .w .psize)))
 
 subtract-requires : tie.Need-subtract-requires
 subtract-requires c κs = search needs

@@ -5,7 +5,7 @@ use native.Mathlib.Omega.{arith}
 use borrow.Author.Needs.{needs}
 use lib.Bits.{and-le-l}
 use lib.Pow.{shl-exact, shl-lt, pow-mono}
-use Rattle.plot.specs.Row.{replaced}
+use Rattle.plot.specs.Word.{replaced}
 use Rattle.plot.proofs.replace.Statement.{statement}
 use Rattle.plot.proofs.replace.Tie as tie
 

@@ -8,7 +8,7 @@ use lib.Dec.{eqb, ltb}
 use Rattle.memory.specs.Bits.{noMemory}
 use Rattle.pixel.specs.Control.{badControl}
 use Rattle.pixel.specs.Pixel.{badPixelSize}
-use Rattle.engine.specs.Engine.{pixels}
+use Rattle.plot.specs.Drawing.{pixels}
 use Rattle.refusals.specs.Refusal.{badPitches, badWindowOf, badDest, badSource}
 use Rattle.refusals.specs.Refusal.{refusalOf}
 use borrow.Author.Needs.{needs}

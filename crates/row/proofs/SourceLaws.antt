@@ -1,10 +1,9 @@
--- S by the source of the drawing, and the step of a source. No contract cites this file. Assumes nothing.
+-- S by the source of the drawing. No contract cites this file. Assumes nothing.
 use mathlib.Core.Path.{_≡_, ap, _∙_}
 use mathlib.Core.Bool.{cond}
 use mathlib.Core.List.{List}
 use mathlib.Core.Logic.{⊎-elim}
-use Prim.Native.Nat.{ℕ, _/_, _^_, _<_}
-use native.Mathlib.Omega.{arith}
+use Prim.Native.Nat.{ℕ, _/_, _<_}
 use lib.Dec.{eqb}
 use lib.ListN.{getD}
 use Rattle.memory.specs.Bits.{bitAt}
@@ -14,8 +13,8 @@ use Rattle.pixel.proofs.BitwiseLaws.{bit-cases}
 use Rattle.plot.specs.declared.Source.{Source}
 use Rattle.plot.specs.declared.Source.the-variants.{Color, Pixels, Bits}
 use Rattle.plot.specs.declared.Drawing.{Drawing}
-use Rattle.plot.specs.Row.{colorsOf}
-use Rattle.engine.specs.Engine.{stepOf, colorAt, sourceBy, sourceAt}
+use Rattle.row.specs.Colors.{colorsOf}
+use Rattle.row.specs.Row.{colorAt, sourceBy, sourceAt}
 
 pub bitAt-lt : (m : List ℕ) (a : ℕ) → bitAt m a < 2
 unfolding bitAt
@@ -38,8 +37,3 @@ module _ (d : Drawing) (from to : ℕ) (m : List ℕ) where
   -- the colour is chosen by the bit as a place in the list of the two
   pub source-chosen : d .source ≡ Bits → sourceAt d from to m ≡ colorAt d (getD (colorsOf d) (bitAt m from) 0) to
   source-chosen e = by-source e ∙ ⊎-elim (λ (z : bitAt m from ≡ 0). rw z) (λ (z : bitAt m from ≡ 1). rw z) (bit-cases (bitAt-lt m from))
-
-pub stepOf-lt : (k : Source) {p : ℕ} → p < 2 ^ 16 → stepOf k p < 2 ^ 16
-stepOf-lt Color h = omega arith
-stepOf-lt Pixels h = h
-stepOf-lt Bits h = omega arith

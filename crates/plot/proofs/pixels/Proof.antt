@@ -3,9 +3,9 @@ use mathlib.Core.Path.{refl}
 use Prim.Native.Nat.{_^_, _<_}
 use native.Mathlib.Omega.{arith}
 use borrow.Author.Needs.{needs}
-use Rattle.engine.proofs.VisitsLaws.{pixels-lt}
-use Rattle.engine.proofs.pixels.Statement.{statement}
-use Rattle.engine.proofs.pixels.Tie as tie
+use Rattle.plot.proofs.DrawingLaws.{pixels-lt}
+use Rattle.plot.proofs.pixels.Statement.{statement}
+use Rattle.plot.proofs.pixels.Tie as tie
 
 cast-result : tie.Need-cast-result
 cast-result c = search needs
