@@ -1,7 +1,7 @@
 -- The scope's "Figures at the edge" that are marked P: one table, with one proof. The definitions are those that contracts cite.
 -- Assumes nothing.
 use mathlib.Core.Path.{_≡_}
-use mathlib.Core.Bool.{Bool, true, false}
+use mathlib.Core.Bool.{true, false}
 use mathlib.Core.List.{List, [], _∷_}
 use Prim.Native.Nat.{ℕ, _%_}
 use Rattle.field.specs.Field.{fieldRead}

@@ -1,11 +1,22 @@
--- Steps over a memory whose bits do not meet commute. No contract cites this file. Assumes nothing.
+-- The bits that a step over a memory may write and those that it reads; steps whose bits do not meet commute. No contract cites this file. Assumes nothing.
 use mathlib.Core.Path.{_≡_, sym, _∙_}
-use mathlib.Core.Logic.{inl, inr, ⊎-elim}
+use mathlib.Core.Logic.{_⊎_, ⊎-elim}
 use mathlib.Core.List.{List}
 use Prim.Native.Nat.{ℕ}
 use Rattle.memory.specs.Bits.{Memory, bitAt}
 use Rattle.memory.proofs.MemoryLaws.{memory-ext}
-use Rattle.interleave.specs.Footprint.{Foot, Apart}
+use Rattle.interleave.specs.Apart.{Apart}
+
+-- two memories have the same bits in B
+abbrev pub Agree : (ℕ → Type 0) → List ℕ → List ℕ → Type 0
+Agree B m m′ = (a : ℕ) → B a → bitAt m a ≡ bitAt m′ a
+
+-- over memories of n words, f may write the bits in W and no others, and it reads these and the bits in R: it leaves n words; every
+-- other bit stays; and what it leaves in W depends on the bits in R and W only
+pub record Foot (n : ℕ) (W R : ℕ → Type 0) (f : List ℕ → List ℕ) : Type 0 where
+  pub good : (m : List ℕ) → Memory n m → Memory n (f m)
+  pub frame : (m : List ℕ) → Memory n m → (a : ℕ) → (bitAt (f m) a ≡ bitAt m a) ⊎ W a
+  pub depend : (m m′ : List ℕ) → Memory n m → Memory n m′ → Agree (λ a. R a ⊎ W a) m m′ → Agree W (f m) (f m′)
 
 pub apart-sym : {W R W′ R′ : ℕ → Type 0} → Apart W R W′ R′ → Apart W′ R′ W R
 apart-sym h = record { writes = λ a w′ w. h .writes a w w′; left = h .right; right = h .left }
@@ -13,18 +24,6 @@ apart-sym h = record { writes = λ a w′ w. h .writes a w w′; left = h .right
 -- a bit that is not in W stays
 pub kept : {n : ℕ} {W R : ℕ → Type 0} {f : List ℕ → List ℕ} → Foot n W R f → (m : List ℕ) → Memory n m → (a : ℕ) → (W a → ⊥) → bitAt (f m) a ≡ bitAt m a
 kept F m g a no-w = ⊎-elim (λ e. e) (λ w. absurd (no-w w)) (F .frame m g a)
-
--- more bits may be named than are used
-pub foot-widen : {n : ℕ} {W R : ℕ → Type 0} {f : List ℕ → List ℕ} → Foot n W R f → (W′ R′ : ℕ → Type 0)
-    → ((a : ℕ) → W a → W′ a) → ((a : ℕ) → R a → R′ a) → Foot n W′ R′ f
-foot-widen {n} {W} {R} {f} F W′ R′ hw hr =
-    record {
-      good = F .good;
-      frame = λ m g a. ⊎-elim (λ e. inl e) (λ w. inr (hw a w)) (F .frame m g a);
-      depend = λ m m′ g g′ e a x.
-          let at-w : W a → bitAt (f m) a ≡ bitAt (f m′) a = F .depend m m′ g g′ (λ b. ⊎-elim (λ r. e b (inl (hr b r))) (λ w. e b (inr (hw b w)))) a in
-          ⊎-elim (λ p. ⊎-elim (λ p′. p ∙ e a (inr x) ∙ sym p′) at-w (F .frame m′ g′ a)) at-w (F .frame m g a);
-    }
 
 -- in the bits that f may write, it is all the same whether f′ went before or comes after
 at-written : {n : ℕ} {W R W′ R′ : ℕ → Type 0} {f f′ : List ℕ → List ℕ} → Foot n W R f → Foot n W′ R′ f′ → Apart W R W′ R′

@@ -4,9 +4,8 @@ use mathlib.Core.Logic.{inl, inr, _≢_}
 use mathlib.Core.List.{List, [], _∷_}
 use Prim.Native.Nat.{ℕ, zero, suc, _+_, _≤_, _<_}
 use native.Mathlib.Omega.{arith}
-use Rattle.interleave.specs.Machine.{visits}
-use Rattle.interleave.specs.Schedule.{In, Distinct}
-use Rattle.interleave.proofs.VisitLaws.{upto, visits-upto, visits-keep, upto-keep}
+use Rattle.interleave.specs.Order.{In, Distinct}
+use Rattle.interleave.proofs.VisitLaws.{visits, upto, visits-upto, visits-keep, upto-keep}
 use Rattle.interleave.proofs.OrderLaws.{in-ne}
 
 -- job j's steps below its place p j, for the jobs of the list, the first one first
@@ -95,7 +94,7 @@ module _ {S : Type 0} {Good : S → Type 0} {count : ℕ → ℕ} {step : ℕ �
       obs-upto x zero ne hk m g = refl
       obs-upto x (suc k) ne hk m g = keeps x k ne hk (upto (step x) k m) (upto-good x k (omega arith) m g) ∙ obs-upto x k ne (omega arith) m g
 
-      obs-ordered : (js : List ℕ) → (In j js → ⊥) → (m : S) → Good m → obs (ordered step p js m) ≡ obs m
+      pub obs-ordered : (js : List ℕ) → (In j js → ⊥) → (m : S) → Good m → obs (ordered step p js m) ≡ obs m
       unfolding ordered
       obs-ordered [] h m g = refl
       obs-ordered (x ∷ xs) h m g =

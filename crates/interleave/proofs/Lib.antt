@@ -2,8 +2,3 @@ pub mod FootprintLaws
 pub mod VisitLaws
 pub mod OrderLaws
 pub mod JobLaws
-pub mod CallLaws
-pub mod CountLaws
-pub mod Invariant
-pub mod RunLaws
-pub mod Interleaved

@@ -5,7 +5,7 @@ use mathlib.Core.List.{List, [], _∷_}
 use Prim.Native.Nat.{ℕ, zero, suc, _<_}
 use native.Mathlib.Decide.{ℕ-discrete}
 use native.Mathlib.Omega.{arith}
-use Rattle.interleave.specs.Schedule.{In, Distinct, Order}
+use Rattle.interleave.specs.Order.{In, Distinct, Order}
 
 pub in-ne : (j x : ℕ) (xs : List ℕ) → In j xs → (In x xs → ⊥) → j ≢ x
 in-ne j x (y ∷ ys) (inl e) h = λ p. h (inl (sym p ∙ e))

@@ -3,7 +3,11 @@ use mathlib.Core.Path.{_≡_, refl, sym, ap, ap₂, _∙_}
 use Prim.Native.Nat.{ℕ, zero, suc, _+_, _<_}
 use native.Mathlib.Nat.{add-zero, add-suc, zero-add}
 use native.Mathlib.Omega.{arith}
-use Rattle.interleave.specs.Machine.{visits}
+
+-- c steps of f, from step k on
+unfoldable pub visits : {S : Type 0} → (ℕ → S → S) → ℕ → ℕ → S → S
+visits f k zero m = m
+visits f k (suc c) m = f (k + c) (visits f k c m)
 
 -- the steps below k
 unfoldable pub upto : {S : Type 0} → (ℕ → S → S) → ℕ → S → S

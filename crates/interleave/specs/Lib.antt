@@ -1,4 +1,2 @@
-pub mod Footprint
-pub mod Machine
-pub mod Schedule
-pub mod Claims
+pub mod Apart
+pub mod Order

@@ -1,1 +1,1 @@
-// Several drawings over one memory, cut into slices: definitions in specs/, theorems in proofs/. There is no code here.
+// Jobs of steps over one memory, in any alternation: words in specs/, laws in proofs/. There is no code here.

@@ -20,10 +20,8 @@ use Rattle.operation.specs.Operation.{copies, copiesPixels}
 use Rattle.arrays.specs.Array.{part, vAfter, destStart, srcStart, drawingOf}
 use Rattle.refusals.specs.Refusal.{refusalOf, refusal}
 use Rattle.drawing.specs.Draw.{outcomeAt, outcome, drawn}
-use Rattle.interleave.specs.Machine.{BitsOf}
-use Rattle.interleave.specs.Schedule.{Event, slice, other, BitsApart}
-use Rattle.slices.specs.Slices.{Job, drawings, Writes, Reads}
-use Rattle.slices.specs.Demand3.{nextCall, calls, afterCalls, OneThenOther}
+use Rattle.slices.specs.Calls.{Job, Call, slice, other, next, run}
+use Rattle.slices.specs.Demand3.{Writes, Reads, BitsApart, afterCalls, OneThenOther}
 use Rattle.slices.proofs.Demand3.{demand3}
 
 -- four pixels of 4 bits from 0,0, of which a window of three columns lets three be drawn (W=3)
@@ -73,25 +71,25 @@ copy =
     }
 
 -- ---- their bits
-fill-writes : (a : ℕ) → BitsOf drawings Writes fill a → a < 12
+fill-writes : (a : ℕ) → Writes fill a → a < 12
 unfolding drawingOf part clipped common destStart xyAddress addressOf
 fill-writes a (i, h, t) = let z : a < (0 + i / 3 * 16 + i % 3 * 4) % 2 ^ 32 + 4 = t .to in omega arith
 
-fill-reads : (a : ℕ) → BitsOf drawings Reads fill a → ⊥
+fill-reads : (a : ℕ) → Reads fill a → ⊥
 unfolding drawingOf
 fill-reads a (i, h, pixel-bit t) = false≢true (ap copiesPixels (t .pixel))
 fill-reads a (i, h, source-bit t) = false≢true (ap copies (t .bits))
 
-copy-writes : (a : ℕ) → BitsOf drawings Writes copy a → 12 ≤ a
+copy-writes : (a : ℕ) → Writes copy a → 12 ≤ a
 unfolding drawingOf part destStart addressOf
 copy-writes a (i, h, t) = let z : (12 + i / 2 * 16 + i % 2 * 4) % 2 ^ 32 ≤ a = t .from in omega arith
 
-copy-reads : (a : ℕ) → BitsOf drawings Reads copy a → 32 ≤ a
+copy-reads : (a : ℕ) → Reads copy a → 32 ≤ a
 unfolding drawingOf part srcStart addressOf
 copy-reads a (i, h, pixel-bit t) = let z : (32 + i / 2 * 16 + i % 2 * 4) % 2 ^ 32 ≤ a = t .from in omega arith
 copy-reads a (i, h, source-bit t) = absurd (true≢false (ap copiesPixels (t .bits)))
 
-apart : BitsApart drawings Writes Reads fill copy
+apart : BitsApart fill copy
 apart =
     record {
       writes = λ a p q. omega (arith, fill-writes a p, copy-writes a q);
@@ -113,21 +111,21 @@ good = record { size = refl; words = small }
     small (suc (suc (suc i))) = omega arith
 
 -- a refused call, at a place past the end, stands among the slices, and one more slice follows when all is done
-abbrev es : List (Event Job)
-es = slice 0 2 ∷ slice 1 1 ∷ other fill 4 9 true ∷ slice 0 5 ∷ slice 1 0 ∷ slice 1 1 ∷ slice 0 1 ∷ []
+abbrev cs : List Call
+cs = slice 0 2 ∷ slice 1 1 ∷ other fill 4 9 true ∷ slice 0 5 ∷ slice 1 0 ∷ slice 1 1 ∷ slice 0 1 ∷ []
 
-computed : (afterCalls fill copy false true m es .memory ≡ 49151 ∷ 10 ∷ 171 ∷ [])
-    × (afterCalls fill copy false true m es .held 0
-    ≡ record { answer = 0; place = 3; v = true; request = false; regs = record { saddr = 0; daddr = 16; dydx = 65540; settings = fill .settings } })
-    × (afterCalls fill copy false true m es .held 1
-    ≡ record { answer = 0; place = 2; v = true; request = false; regs = record { saddr = 48; daddr = 28; dydx = 65538; settings = copy .settings } })
-unfolding calls nextCall outcome outcomeAt drawn refusal refusalOf vAfter drawingOf part destStart srcStart clipped common xyAddress badXYPitch leavesMemory reaches addressOf visits drawnAt sourceAt plotted wordAfter withPixel pixelAfter result processed operations pixelOf
+computed : (afterCalls fill copy false true m cs .memory ≡ 49151 ∷ 10 ∷ 171 ∷ [])
+    × (afterCalls fill copy false true m cs .held 0
+    ≡ record { answer = 0; place = 3; v = true; request = false; saddr = 0; daddr = 16; dydx = 65540; settings = fill .settings })
+    × (afterCalls fill copy false true m cs .held 1
+    ≡ record { answer = 0; place = 2; v = true; request = false; saddr = 48; daddr = 28; dydx = 65538; settings = copy .settings })
+unfolding run next outcome outcomeAt drawn refusal refusalOf vAfter drawingOf part destStart srcStart clipped common xyAddress badXYPitch leavesMemory reaches addressOf visits drawnAt sourceAt plotted wordAfter withPixel pixelAfter result processed operations pixelOf
 computed = (refl, refl, refl)
 
-applied : OneThenOther 0 1 fill copy false true 3 9 m (afterCalls fill copy false true m es)
-    × OneThenOther 1 0 copy fill true false 9 3 m (afterCalls fill copy false true m es)
+applied : OneThenOther 0 1 fill copy false true 3 9 m (afterCalls fill copy false true m cs)
+    × OneThenOther 1 0 copy fill true false 9 3 m (afterCalls fill copy false true m cs)
 unfolding refusal refusalOf drawingOf part destStart srcStart clipped common xyAddress badXYPitch leavesMemory reaches addressOf
 applied =
-    demand3 3 m good fill copy refl refl apart false true es
+    demand3 3 m good fill copy refl refl apart false true cs
     (omega arith, (omega arith, ((λ z. omega arith), (omega arith, (omega arith, (omega arith, (omega arith, tt)))))))
     (ap (λ h. h .answer) (computed .1)) (ap (λ h. h .answer) (computed .2)) 3 9 (omega arith) (omega arith)

@@ -1,4 +1,10 @@
-pub mod CallsAgree
-pub mod Lawful
+pub mod OutcomeLaws
+pub mod JoinLaws
+pub mod FootLaws
+pub mod CallLaws
+pub mod CountLaws
+pub mod Invariant
+pub mod RunLaws
+pub mod Interleaved
 pub mod Demand3
 pub mod Example

@@ -1,41 +1,98 @@
--- Demand 3 (the scope, "Demand 3 is one claim about its list") for the FILL and PIXBLT calls, by their own definitions `outcome` and
--- `drawn`. The proofs are in proofs/Demand3.antt. Assumes nothing.
+-- Demand 3 (the scope, "Demand 3 is one claim about its list"), sentence by sentence, over lists of the public calls (Calls.antt) and what
+-- these are defined by: the refusal, the drawing's walk, the bits that its pixels write and read. Drawings are any of the eight. One claim
+-- is made, of any number of drawings; the scope's two are an instance of it. The proofs are in proofs/Interleaved.antt and Demand3.antt.
+-- Assumes nothing.
 use mathlib.Core.Path.{_≡_}
-use mathlib.Core.Bool.{Bool, false, cond}
+use mathlib.Core.Logic.{_≢_}
+use mathlib.Core.Bool.{Bool}
 use mathlib.Core.List.{List, [], _∷_}
 use Prim.Native.Nat.{ℕ, zero, suc, _≤_, _<_}
-use lib.Dec.{eqb}
 use lib.ListN.{length}
 use Rattle.memory.specs.Bits.{Memory, bitAt}
-use Rattle.interleave.specs.Machine.{Held, Accepted, BitsOf}
-use Rattle.interleave.specs.Schedule.{Event, slice, other, State, after, Fine, Done, BitsApart, Drawings}
-use Rattle.slices.specs.Slices.{Job, Registers, heldOf, outcomeOf, memoryAfter, keptBy, drawings, Writes, Reads}
+use Rattle.plot.specs.Drawing.{pixels}
+use Rattle.engine.specs.Footprint.{PixelWrites, PixelReads}
+use Rattle.plot.specs.declared.Drawing.{Drawing}
+use Rattle.arrays.specs.Array.{drawingFor}
+use Rattle.refusals.specs.Refusal.{refusal}
+use Rattle.interleave.specs.Apart.{Apart}
+use Rattle.interleave.specs.Order.{Order}
+use Rattle.slices.specs.Calls.{Job, Call, slice, other, State, handedBack, memoryAfter, run, fresh, start}
 
--- ---- a list of calls
+-- ---- a drawing
 
--- what a call hands back: drawing, place, budget, V, memory
-abbrev pub handedBack : Job → ℕ → ℕ → Bool → List ℕ → Held Registers
-handedBack j place budget v m = heldOf (outcomeOf j place budget v (length m))
+-- what is drawn, and n, its pixels in all
+abbrev pub walkOf : Job → Drawing
+walkOf j = drawingFor (j .operation) (j .settings)
 
--- one call. A slice goes on at the place and with the V that are held of its drawing, and what is held then is that of its last accepted
--- call; any other call leaves all that is held
-unfoldable pub nextCall : (ℕ → Job) → Event Job → State Registers → State Registers
-nextCall jobs (slice j b) s =
-    let old = s .held j in
-    record {
-      memory = memoryAfter (jobs j) (old .place) b (s .memory);
-      held = λ x. cond (eqb x j) (after (handedBack (jobs j) (old .place) b (old .v) (s .memory)) old) (s .held x);
-    }
-nextCall jobs (other d k b v) s = record { memory = memoryAfter d k b (s .memory); held = s .held }
+abbrev pub pixelsOf : Job → ℕ
+pixelsOf j = pixels (walkOf j)
 
--- a list of calls, the first one first
-unfoldable pub calls : (ℕ → Job) → List (Event Job) → State Registers → State Registers
-calls jobs [] s = s
-calls jobs (e ∷ es) s = calls jobs es (nextCall jobs e s)
+-- "Whole is one call at place 0 with the drawing's first V and a budget of at least n": b is such a budget
+abbrev pub Whole : Job → ℕ → Type 0
+Whole j b = pixelsOf j ≤ b
 
--- before any call: place 0, the drawing's first V, no request, registers as given, not done
-abbrev pub before : (ℕ → Job) → (ℕ → Bool) → List ℕ → State Registers
-before jobs v m = record { memory = m; held = λ j. record { answer = 1; place = 0; v = v j; request = false; regs = keptBy (jobs j) } }
+-- "A drawing is accepted if that call isn't refused": one at place 0, over a memory of w words (V and budget refuse nothing)
+abbrev pub Accepted : ℕ → Job → Type 0
+Accepted w j = refusal (j .operation) (j .settings) 0 w ≡ 0
+
+-- "all n pixels count for its bits": those that it may write, and those that it reads beside these
+abbrev pub Writes : Job → ℕ → Type 0
+Writes j a = (i : ℕ) × (i < pixelsOf j) × PixelWrites (walkOf j) i a
+
+abbrev pub Reads : Job → ℕ → Type 0
+Reads j a = (i : ℕ) × (i < pixelsOf j) × PixelReads (walkOf j) i a
+
+-- the bits of two drawings do not meet: no bit that one of them may write is written or read by the other
+abbrev pub BitsApart : Job → Job → Type 0
+BitsApart d e = Apart (Writes d) (Reads d) (Writes e) (Reads e)
+
+-- several drawings over one memory of w words: how many, each one's first V, and the first memory. The bits of no two accepted ones meet
+pub record Drawings (w : ℕ) : Type 0 where
+  pub count : ℕ
+  pub jobs : ℕ → Job
+  pub firstV : ℕ → Bool
+  pub memory : List ℕ
+  pub good : Memory w memory
+  pub apart : (i j : ℕ) → i < count → j < count → i ≢ j → Accepted w (jobs i) → Accepted w (jobs j) → BitsApart (jobs i) (jobs j)
+
+-- ---- a list of their calls
+
+-- slices of the drawings below count, with any budgets in any alternation, and refused calls anywhere
+abbrev pub Fine : ℕ → ℕ → List Call → Type 0
+Fine w count [] = Unit
+Fine w count (slice j b ∷ cs) = (j < count) × Fine w count cs
+Fine w count (other d k b v ∷ cs) = (refusal (d .operation) (d .settings) k w ≢ 0) × Fine w count cs
+
+-- what it leads to
+abbrev pub reached : {w : ℕ} → Drawings w → List Call → State
+reached S cs = run (S .jobs) cs (start (S .jobs) (S .firstV) (S .memory))
+
+-- "It is done once a call of its own answers 0, and more may follow"
+abbrev pub Done : State → ℕ → Type 0
+Done s j = s .held j .answer ≡ 0
+
+-- ---- whole calls, one after another
+
+-- the memory after one call each at place 0, in the order of a list, on the memory that the one before left
+unfoldable pub inTurn : (ℕ → Job) → (ℕ → ℕ) → List ℕ → List ℕ → List ℕ
+inTurn jobs b [] m = m
+inTurn jobs b (j ∷ os) m = inTurn jobs b os (memoryAfter (jobs j) 0 (b j) m)
+
+-- a state is what whole calls with the budgets b give: the memory that they leave one after another, in every order; of each accepted
+-- drawing all that its whole call hands back, its flags, V and request, and all its registers, on any memory of w words; of a refused one,
+-- which has no accepted call, what was given
+pub record AsWhole {w : ℕ} (S : Drawings w) (b : ℕ → ℕ) (s : State) : Type 0 where
+  pub memory : (os : List ℕ) → Order (S .count) os → s .memory ≡ inTurn (S .jobs) b os (S .memory)
+  pub held : (j : ℕ) → j < S .count → Accepted w (S .jobs j) → (m : List ℕ) → length m ≡ w
+      → s .held j ≡ handedBack (S .jobs j) 0 (b j) (S .firstV j) m
+  pub refused : (j : ℕ) → (Accepted w (S .jobs j) → ⊥) → s .held j ≡ fresh (S .jobs j) (S .firstV j)
+
+-- ---- the claim: a list of calls that leaves every accepted drawing done gives what whole calls give
+abbrev pub AnyDrawings : Type 0
+AnyDrawings =
+    (w : ℕ) (S : Drawings w) (cs : List Call) → Fine w (S .count) cs
+    → ((j : ℕ) → j < S .count → Accepted w (S .jobs j) → Done (reached S cs) j)
+    → (b : ℕ → ℕ) → ((j : ℕ) → j < S .count → Whole (S .jobs j) (b j)) → AsWhole S b (reached S cs)
 
 -- ---- two drawings
 
@@ -45,43 +102,43 @@ two d e zero = d
 two d e (suc j) = e
 
 -- what a list of calls of d (number 0, first V v) and e (number 1, first V u) leads to, from memory m
-abbrev pub afterCalls : (d e : Job) (v u : Bool) → List ℕ → List (Event Job) → State Registers
-afterCalls d e v u m es = calls (two d e) es (before (two d e) (two v u) m)
+abbrev pub afterCalls : (d e : Job) (v u : Bool) → List ℕ → List Call → State
+afterCalls d e v u m cs = run (two d e) cs (start (two d e) (two v u) m)
 
--- a state is what d (number i) whole and then e (number j) whole give, with first V's v and u and budgets b and c, from memory m: the
--- memory, and of each drawing answer, place, V, request and registers. Whole is one call at place 0
-pub record OneThenOther (i j : ℕ) (d e : Job) (v u : Bool) (b c : ℕ) (m : List ℕ) (s : State Registers) : Type 0 where
+-- a state is what d (number i) whole and then e (number j) whole give, with first V's v and u and budgets b and c, from memory m
+pub record OneThenOther (i j : ℕ) (d e : Job) (v u : Bool) (b c : ℕ) (m : List ℕ) (s : State) : Type 0 where
   pub memory : s .memory ≡ memoryAfter e 0 c (memoryAfter d 0 b m)
   pub first : s .held i ≡ handedBack d 0 b v m
   pub second : s .held j ≡ handedBack e 0 c u (memoryAfter d 0 b m)
 
--- over every memory of w words: two accepted drawings whose bits don't meet, all their pixels counting, with any first V's; and a list of
--- slices of them with any budgets in any alternation, with refused calls of any drawing, place, budget and V anywhere. If a call of each
--- has answered 0 (after which it stays done: DoneForGood), then memory, flags and registers are those of d whole and then e whole, and those
--- of e whole and then d whole, a budget of at least n being whole
+-- the claim of two accepted drawings: once a call of each has answered 0 (after which it stays done: DoneForGood), memory, flags and
+-- registers are those of d whole and then e whole, and those of e whole and then d whole
 abbrev pub Demand3 : Type 0
 Demand3 =
     (w : ℕ) (m : List ℕ) → Memory w m
-    → (d e : Job) → Accepted drawings w d → Accepted drawings w e → BitsApart drawings Writes Reads d e
-    → (v u : Bool) (es : List (Event Job)) → Fine drawings w 2 es → Done (afterCalls d e v u m es) 0 → Done (afterCalls d e v u m es) 1
-    → (b c : ℕ) → drawings .pixels d ≤ b → drawings .pixels e ≤ c
-    → OneThenOther 0 1 d e v u b c m (afterCalls d e v u m es) × OneThenOther 1 0 e d u v c b m (afterCalls d e v u m es)
+    → (d e : Job) → Accepted w d → Accepted w e → BitsApart d e
+    → (v u : Bool) (cs : List Call) → Fine w 2 cs → Done (afterCalls d e v u m cs) 0 → Done (afterCalls d e v u m cs) 1
+    → (b c : ℕ) → Whole d b → Whole e c
+    → OneThenOther 0 1 d e v u b c m (afterCalls d e v u m cs) × OneThenOther 1 0 e d u v c b m (afterCalls d e v u m cs)
 
--- ---- any number of drawings
+-- ---- a list that stops anywhere
 
--- what a list of calls of them leads to
-abbrev pub reachedBy : {w : ℕ} → Drawings drawings w Writes Reads → List (Event Job) → State Registers
-reachedBy S es = calls (S .jobs) es (before (S .jobs) (S .firstV) (S .memory))
-
--- a list that stops anywhere: in the bits that an accepted drawing may write, the memory is what that drawing alone has at its place
+-- in the bits that an accepted drawing may write, the memory is what that drawing alone has at its place
 abbrev pub StoppedAnywhere : Type 0
 StoppedAnywhere =
-    (w : ℕ) (S : Drawings drawings w Writes Reads) (es : List (Event Job)) → Fine drawings w (S .count) es
-    → (j : ℕ) → j < S .count → Accepted drawings w (S .jobs j) → (a : ℕ) → BitsOf drawings Writes (S .jobs j) a
-    → bitAt (reachedBy S es .memory) a ≡ bitAt (memoryAfter (S .jobs j) 0 (reachedBy S es .held j .place) (S .memory)) a
+    (w : ℕ) (S : Drawings w) (cs : List Call) → Fine w (S .count) cs
+    → (j : ℕ) → j < S .count → Accepted w (S .jobs j) → (a : ℕ) → Writes (S .jobs j) a
+    → bitAt (reached S cs .memory) a ≡ bitAt (memoryAfter (S .jobs j) 0 (reached S cs .held j .place) (S .memory)) a
+
+-- bits that no accepted drawing may write stay
+abbrev pub OthersStay : Type 0
+OthersStay =
+    (w : ℕ) (S : Drawings w) (cs : List Call) → Fine w (S .count) cs
+    → (a : ℕ) → ((j : ℕ) → j < S .count → Accepted w (S .jobs j) → Writes (S .jobs j) a → ⊥)
+    → bitAt (reached S cs .memory) a ≡ bitAt (S .memory) a
 
 -- once a call of its own has answered 0, a drawing stays done whatever follows
 abbrev pub DoneForGood : Type 0
 DoneForGood =
-    (w : ℕ) (S : Drawings drawings w Writes Reads) (es fs : List (Event Job)) → Fine drawings w (S .count) es → Fine drawings w (S .count) fs
-    → (j : ℕ) → Done (reachedBy S es) j → Done (calls (S .jobs) fs (reachedBy S es)) j
+    (w : ℕ) (S : Drawings w) (cs ds : List Call) → Fine w (S .count) cs → Fine w (S .count) ds
+    → (j : ℕ) → Done (reached S cs) j → Done (run (S .jobs) ds (reached S cs)) j

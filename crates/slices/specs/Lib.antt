@@ -1,2 +1,3 @@
-pub mod Slices
+pub mod Joined
+pub mod Calls
 pub mod Demand3

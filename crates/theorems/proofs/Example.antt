@@ -1,5 +1,5 @@
 -- The scope's plan, read and run by computing. Assumes nothing.
-use mathlib.Core.Path.{_≡_, refl, ap, _∙_}
+use mathlib.Core.Path.{_≡_, refl, ap}
 use mathlib.Core.List.{_++_}
 use Rattle.lists.specs.Search.{any, first, anyPair}
 use Rattle.text.specs.Text.{before, parts, same}
@@ -10,8 +10,7 @@ use Rattle.plan.specs.Reading.{kept, accepted, axisLines, drawLine, memoryLine,
 use Rattle.listing.specs.Listing.{heading}
 use Rattle.run.specs.Example.{exampleAxes}
 use Rattle.run.proofs.ExampleLaws.{example}
-use Rattle.theorems.specs.Plans.{listing}
-use Rattle.theorems.specs.Example.{planText, listingText, ExampleListed}
+use Rattle.theorems.specs.Example.{planText, ExampleListed, OfExample}
 
 read : reading planText ≡ accepted 4 0 exampleAxes
 unfolding any first anyPair before parts same areDigits decimal numberOf limit memoryOf drawOf nameOf valuesOf badForm refusal kept axisLines drawLine memoryLine reading
@@ -20,3 +19,6 @@ read = refl
 pub example-listed : ExampleListed
 unfolding count
 example-listed = rw read (ap (λ ls. heading ++ ls) example)
+
+pub of-example : OfExample
+of-example = record { example-listed = example-listed }

@@ -1,4 +1,13 @@
-pub mod Example
-pub mod Plans
+pub mod Memory
+pub mod Cache
+pub mod PixelBitLaws
+pub mod Pixels
+pub mod PlaceLaws
+pub mod Arrays
+pub mod SeenLaws
+pub mod Windows
 pub mod Refused
+pub mod Slices
+pub mod Plans
+pub mod Example
 pub mod Theorems

@@ -19,7 +19,7 @@ use Rattle.plan.proofs.AcceptedLaws.{reading-accepted}
 use Rattle.run.proofs.LinesLaws.{pointLines-add}
 use Rattle.run.proofs.ValuesLaws.{settings-kept, seeds-told}
 use Rattle.run.specs.Lines.{pointLines, longest, badShape, badPoints, written}
-use Rattle.theorems.specs.Plans.{NumbersAreExperiments, TableIsPlan, RunIsListing, PartsJoin, NamesHaveValues, SettingsArrive, SeedsArrive}
+use Rattle.theorems.specs.Plans.{NumbersAreExperiments, TableIsPlan, RunIsListing, PartsJoin, NamesHaveValues, SettingsArrive, SeedsArrive, OfPlans}
 
 pub numbers-are-experiments : NumbersAreExperiments
 numbers-are-experiments text e = pointsOneToOne (reading text .axes) (reading-sound text)
@@ -65,3 +65,15 @@ settings-arrive text = settings-kept (reading text .axes) (reading-sound text)
 
 pub seeds-arrive : SeedsArrive
 seeds-arrive text m n words l = seeds-told (reading text .axes) (reading-sound text) words l m n
+
+pub of-plans : OfPlans
+of-plans =
+    record {
+      numbers-are-experiments = numbers-are-experiments;
+      table-is-plan = table-is-plan;
+      run-is-listing = run-is-listing;
+      parts-join = parts-join;
+      names-have-values = names-have-values;
+      settings-arrive = settings-arrive;
+      seeds-arrive = seeds-arrive;
+    }

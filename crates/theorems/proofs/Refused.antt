@@ -1,7 +1,6 @@
 -- The proofs of specs/Refused.antt. Assumes nothing.
-use mathlib.Core.Path.{_≡_}
 use mathlib.Core.Bool.{Bool, true, false, cond}
-use Prim.Native.Nat.{ℕ, _+_, _≤_}
+use Prim.Native.Nat.{_+_, _≤_}
 use native.Mathlib.Omega.{arith}
 use borrow.Author.Tests.{eq-eqb, ne-eqb}
 use lib.Dec.{eqb}
@@ -13,7 +12,8 @@ use Rattle.drav.specs.Drav.{dravOf}
 use Rattle.plot.specs.Drawing.{pixels}
 use Rattle.arrays.specs.Array.{drawingFor}
 use Rattle.drawing.specs.Draw.{outcomeAt, visitedBy, outcome, drawn}
-use Rattle.theorems.specs.Refused.{DrawRefused, DrawAccepted, PixtRefused, DravRefused, WriteRefused, ImageRefused, FetchRefused}
+use Rattle.slices.proofs.OutcomeLaws as outcome
+use Rattle.theorems.specs.Refused.{DrawRefused, DrawAccepted, DrawNumbers, PixtRefused, DravRefused, WriteRefused, ImageRefused, FetchRefused, OfRefusals}
 
 pub draw-refused : DrawRefused
 unfolding outcome drawn
@@ -26,6 +26,9 @@ draw-accepted op s place v budget words e = rw (eq-eqb _ _ e) (go (eqb (place + 
     go : (t : Bool) → cond t 0 1 ≤ 1
     go true = omega arith
     go false = omega arith
+
+pub draw-numbers : DrawNumbers
+draw-numbers = outcome.refused-answer
 
 pub pixt-refused : PixtRefused
 unfolding pixtTo pixtFrom
@@ -45,3 +48,16 @@ image-refused m seed e = rw e
 pub fetch-refused : FetchRefused
 unfolding fetched
 fetch-refused c address control e = rw e
+
+pub of-refusals : OfRefusals
+of-refusals =
+    record {
+      draw-refused = draw-refused;
+      draw-accepted = draw-accepted;
+      draw-numbers = draw-numbers;
+      pixt-refused = pixt-refused;
+      drav-refused = drav-refused;
+      write-refused = write-refused;
+      image-refused = image-refused;
+      fetch-refused = fetch-refused;
+    }

@@ -26,3 +26,7 @@ listingText =
 
 abbrev pub ExampleListed : Type 0
 ExampleListed = listing planText ≡ listingText
+
+-- every statement of this file
+pub record OfExample : Type 0 where
+  pub example-listed : ExampleListed

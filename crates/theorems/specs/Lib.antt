@@ -1,4 +1,10 @@
-pub mod Example
-pub mod Plans
+pub mod Memory
+pub mod Cache
+pub mod Pixels
+pub mod Arrays
+pub mod Windows
 pub mod Refused
+pub mod Slices
+pub mod Plans
+pub mod Example
 pub mod Theorems

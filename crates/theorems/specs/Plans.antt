@@ -70,3 +70,13 @@ abbrev pub SeedsArrive : Type 0
 SeedsArrive =
     (text : List ℕ) (m n words : ℕ) → 4 ≤ words → imageFor words (experiment (reading text .axes) m) ≡ imageFor words (experiment (reading text .axes) n)
     → seedOf (experiment (reading text .axes) m) ≡ seedOf (experiment (reading text .axes) n)
+
+-- every statement of this file
+pub record OfPlans : Type 0 where
+  pub numbers-are-experiments : NumbersAreExperiments
+  pub table-is-plan : TableIsPlan
+  pub run-is-listing : RunIsListing
+  pub parts-join : PartsJoin
+  pub names-have-values : NamesHaveValues
+  pub settings-arrive : SettingsArrive
+  pub seeds-arrive : SeedsArrive

@@ -43,6 +43,12 @@ DrawAccepted =
     (op : Operation) (s : Settings) (place : ℕ) (v : Bool) (budget words : ℕ) → refusal op s place words ≡ 0
     → outcome op s place v budget words .answer ≤ 1
 
+-- One that a refusal applies to answers 10 to 17.
+abbrev pub DrawNumbers : Type 0
+DrawNumbers =
+    (op : Operation) (s : Settings) (place : ℕ) (v : Bool) (budget words : ℕ) → (refusal op s place words ≡ 0 → ⊥)
+    → (10 ≤ outcome op s place v budget words .answer) × (outcome op s place v budget words .answer ≤ 17)
+
 -- PIXT, with the lone pixel's refusal: register to memory, and memory to register, which never changes memory.
 abbrev pub PixtRefused : Type 0
 PixtRefused =
@@ -66,3 +72,14 @@ ImageRefused = (m : List ℕ) (seed : ℕ) → noMemory (length m) ≡ true → 
 
 abbrev pub FetchRefused : Type 0
 FetchRefused = (c : Cache) (address control : ℕ) → refused c ≡ true → fetched c address control ≡ record { kind = Refused; cache = c }
+
+-- every statement of this file
+pub record OfRefusals : Type 0 where
+  pub draw-refused : DrawRefused
+  pub draw-accepted : DrawAccepted
+  pub draw-numbers : DrawNumbers
+  pub pixt-refused : PixtRefused
+  pub drav-refused : DravRefused
+  pub write-refused : WriteRefused
+  pub image-refused : ImageRefused
+  pub fetch-refused : FetchRefused

@@ -1,1 +1,1 @@
-// Statements and their proofs: specs/Theorems.antt and proofs/Theorems.antt. There is no code here.
+// Statements and their proofs: specs/Theorems.antt has the record of all, proofs/Theorems.antt its one value. There is no code here.

@@ -8,30 +8,32 @@ use native.Mathlib.Decide.{ℕ-discrete}
 use native.Mathlib.Omega.{arith}
 use lib.Dec.{eqb}
 use Rattle.memory.specs.Bits.{Memory}
-use Rattle.interleave.specs.Machine.{Machine, Held, Lawful, Accepted, visits, heldAt}
-use Rattle.interleave.specs.Schedule.{State, Drawings, Order, fresh, start}
+use Rattle.interleave.specs.Order.{Order}
+use Rattle.interleave.proofs.VisitLaws.{visits}
 use Rattle.interleave.proofs.JobLaws.{ordered, ordered-none, visits-good, advance}
-use Rattle.interleave.proofs.CallLaws.{cond-eq, cond-ne}
-use Rattle.interleave.proofs.CountLaws.{cnt, step, cnt-live, commuting}
+use Rattle.slices.specs.Calls.{Held, State, fresh, start}
+use Rattle.slices.specs.Demand3.{pixelsOf, Accepted, Drawings}
+use Rattle.slices.proofs.CallLaws.{cond-eq, cond-ne, heldAt, heldAt-place}
+use Rattle.slices.proofs.CountLaws.{cnt, step, cnt-live, commuting}
 
-abbrev pub places : {G : Type 0} → State G → ℕ → ℕ
+abbrev pub places : State → ℕ → ℕ
 places s j = s .held j .place
 
-module _ {D G : Type 0} {X : Machine D G} {w : ℕ} {W R : D → ℕ → ℕ → Type 0} (S : Drawings X w W R) where
+module _ {w : ℕ} (S : Drawings w) where
   -- drawing j was accepted, and what is held of it is what its place gives with its first V
-  pub record Drew (s : State G) (j : ℕ) : Type 0 where
+  pub record Drew (s : State) (j : ℕ) : Type 0 where
     pub job : j < S .count
-    pub taken : Accepted X w (S .jobs j)
-    pub holds : s .held j ≡ heldAt X (S .jobs j) (places s j) (S .firstV j)
+    pub taken : Accepted w (S .jobs j)
+    pub holds : s .held j ≡ heldAt (S .jobs j) (places s j) (S .firstV j)
 
   -- every order gives the memory; what is held of each drawing is fresh, or what its place gives
-  pub record Inv (s : State G) : Type 0 where
+  pub record Inv (s : State) : Type 0 where
     pub good : Memory w (s .memory)
     pub fits : (j : ℕ) → places s j ≤ cnt S j
     pub mem : (os : List ℕ) → Order (S .count) os → s .memory ≡ ordered (step S) (places s) os (S .memory)
-    pub job : (j : ℕ) → (s .held j ≡ fresh X (S .jobs j) (S .firstV j)) ⊎ Drew s j
+    pub job : (j : ℕ) → (s .held j ≡ fresh (S .jobs j) (S .firstV j)) ⊎ Drew s j
 
-  pub inv-start : Inv (start X (S .jobs) (S .firstV) (S .memory))
+  pub inv-start : Inv (start (S .jobs) (S .firstV) (S .memory))
   inv-start =
       record {
         good = S .good;
@@ -41,15 +43,15 @@ module _ {D G : Type 0} {X : Machine D G} {w : ℕ} {W R : D → ℕ → ℕ →
       }
 
   -- c more pixels of drawing j
-  unfoldable pub moved : State G → ℕ → ℕ → State G
+  unfoldable pub moved : State → ℕ → ℕ → State
   moved s j c =
       record {
         memory = visits (step S j) (places s j) c (s .memory);
-        held = λ x. cond (eqb x j) (heldAt X (S .jobs j) (places s j + c) (S .firstV j)) (s .held x);
+        held = λ x. cond (eqb x j) (heldAt (S .jobs j) (places s j + c) (S .firstV j)) (s .held x);
       }
 
-  module _ (s : State G) (j c : ℕ) where
-    pub moved-here : moved s j c .held j ≡ heldAt X (S .jobs j) (places s j + c) (S .firstV j)
+  module _ (s : State) (j c : ℕ) where
+    pub moved-here : moved s j c .held j ≡ heldAt (S .jobs j) (places s j + c) (S .firstV j)
     unfolding moved
     moved-here = cond-eq j j _ (s .held j) refl
 
@@ -58,25 +60,24 @@ module _ {D G : Type 0} {X : Machine D G} {w : ℕ} {W R : D → ℕ → ℕ →
     moved-there x ne = cond-ne x j _ (s .held x) ne
 
     place-here : places (moved s j c) j ≡ places s j + c
-    unfolding heldAt
-    place-here = ap (λ (h : Held G). h .place) moved-here
+    place-here = ap (λ (h : Held). h .place) moved-here ∙ heldAt-place (S .jobs j) (places s j + c) (S .firstV j)
 
     place-there : (x : ℕ) → x ≢ j → places (moved s j c) x ≡ places s x
-    place-there x ne = ap (λ (h : Held G). h .place) (moved-there x ne)
+    place-there x ne = ap (λ (h : Held). h .place) (moved-there x ne)
 
-    drew-here : j < S .count → Accepted X w (S .jobs j) → Drew (moved s j c) j
+    drew-here : j < S .count → Accepted w (S .jobs j) → Drew (moved s j c) j
     drew-here hj hr =
-        record { job = hj; taken = hr; holds = moved-here ∙ ap (λ (k : ℕ). heldAt X (S .jobs j) k (S .firstV j)) (sym place-here) }
+        record { job = hj; taken = hr; holds = moved-here ∙ ap (λ (k : ℕ). heldAt (S .jobs j) k (S .firstV j)) (sym place-here) }
 
     drew-there : (x : ℕ) → x ≢ j → Drew s x → Drew (moved s j c) x
     drew-there x ne p =
         record {
           job = p .job;
           taken = p .taken;
-          holds = moved-there x ne ∙ p .holds ∙ ap (λ (k : ℕ). heldAt X (S .jobs x) k (S .firstV x)) (sym (place-there x ne));
+          holds = moved-there x ne ∙ p .holds ∙ ap (λ (k : ℕ). heldAt (S .jobs x) k (S .firstV x)) (sym (place-there x ne));
         }
 
-    module _ (L : Lawful X w W R) (I : Inv s) (hj : j < S .count) (hr : Accepted X w (S .jobs j)) (hc : places s j + c ≤ X .pixels (S .jobs j)) where
+    module _ (I : Inv s) (hj : j < S .count) (hr : Accepted w (S .jobs j)) (hc : places s j + c ≤ pixelsOf (S .jobs j)) where
       moved-fits : (x : ℕ) → places (moved s j c) x ≤ cnt S x
       moved-fits x =
           by-cases (ℕ-discrete x j)
@@ -87,14 +88,14 @@ module _ {D G : Type 0} {X : Machine D G} {w : ℕ} {W R : D → ℕ → ℕ →
       unfolding moved
       moved-mem os o =
           ap (visits (step S j) (places s j) c) (I .mem os o)
-          ∙ advance (commuting S L) (places s) (I .fits) (places (moved s j c)) j c place-here place-there
+          ∙ advance (commuting S) (places s) (I .fits) (places (moved s j c)) j c place-here place-there
           (omega (arith, cnt-live S j hj hr)) os (o .once) (o .all j hj) (S .memory) (S .good)
 
       pub inv-moved : Inv (moved s j c)
       unfolding moved
       inv-moved =
           record {
-            good = visits-good (commuting S L) j (places s j) c (omega (arith, cnt-live S j hj hr)) (s .memory) (I .good);
+            good = visits-good (commuting S) j (places s j) c (omega (arith, cnt-live S j hj hr)) (s .memory) (I .good);
             fits = moved-fits;
             mem = moved-mem;
             job = λ x. by-cases (ℕ-discrete x j)

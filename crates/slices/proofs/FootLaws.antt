@@ -1,12 +1,10 @@
--- The laws that the theory of slices asks for hold of `drawings`. No contract cites this file. Assumes nothing.
-use mathlib.Core.Path.{_≡_, refl, sym, ap, subst}
-use mathlib.Core.Bool.{Bool, true, false, cond, not, _&&_, _||_, false≢true}
+-- The pixels of an accepted drawing lie in the memory, each within one word, and keep to their bits. No contract cites this file. Assumes nothing.
+use mathlib.Core.Path.{_≡_, sym, ap, subst}
+use mathlib.Core.Bool.{Bool, true, false, not, _&&_, _||_, false≢true}
 use Prim.Native.Nat.{ℕ, _+_, _*_, _%_, _^_, _≤_, _<_}
 use native.Mathlib.Omega.{arith}
 use borrow.Author.Tests.{eqb-true, ne-eqb, not-false}
-use lib.Dec.{eqb}
 use Rattle.memory.proofs.Tests.{or-false-left, or-false-right}
-use Rattle.pixel.specs.Control.{windowing}
 use Rattle.pixel.specs.Pixel.{badPixelSize}
 use Rattle.pixel.proofs.SizeLaws.{by-size}
 use Rattle.address.specs.Address.{misaligned}
@@ -23,15 +21,15 @@ use Rattle.engine.specs.Footprint.{PixelWrites, PixelReads}
 use Rattle.engine.proofs.FootprintLaws.{memory-visit, visit-frame, visit-depend}
 use Rattle.operation.specs.declared.Operation.{Operation}
 use Rattle.operation.specs.Operation.{toXY, fromXY, sourceOf, copiesPixels}
-use Rattle.arrays.specs.Array.{part, vAfter, drawingOf, drawingFor, destStart, srcStart}
+use Rattle.arrays.specs.Array.{part, drawingOf, drawingFor, destStart, srcStart}
 use Rattle.refusals.specs.Refusal.{badPitch, badDest, badSource, negativeStart}
-use Rattle.interleave.specs.Footprint.{Foot}
-use Rattle.interleave.specs.Machine.{Lawful}
-use Rattle.slices.specs.Slices.{drawings, Writes, Reads}
-use Rattle.refusals.proofs.RefusalLaws.{Passes, passes, refusal-ten, refusal-place}
+use Rattle.refusals.proofs.RefusalLaws.{Passes, passes}
+use Rattle.interleave.proofs.FootprintLaws.{Foot}
+use Rattle.slices.specs.Calls.{Job}
+use Rattle.slices.specs.Demand3.{walkOf, pixelsOf, Accepted}
 
 -- a test that is false, and of which one part is true
-and-false : (a b : Bool) → a ≡ true → (a && b) ≡ false → b ≡ false
+pub and-false : (a b : Bool) → a ≡ true → (a && b) ≡ false → b ≡ false
 and-false true b e h = h
 and-false false b e h = absurd (false≢true e)
 
@@ -53,16 +51,16 @@ walk-room p e start cols pitch i h hp = room p e (eqb-true (start % p) 0 (not-fa
         by-size (λ p. start % p ≡ 0 → addressOf start cols pitch p i % 16 + p ≤ 16)
         (at 0 (omega arith)) (at 1 (omega arith)) (at 2 (omega arith)) (at 3 (omega arith)) (at 4 (omega arith))
 
--- ---- the pixels of an accepted drawing
-module _ (op : Operation) (s : Settings) (w : ℕ) (p : Passes op s 0 w) (i : ℕ) (h : i < pixels (drawingFor op s)) where
-  abbrev badTo : Bool
+-- ---- the pixels of a drawing that is not refused
+module _ (op : Operation) (s : Settings) (k w : ℕ) (p : Passes op s k w) (i : ℕ) (h : i < pixels (drawingFor op s)) where
+  abbrev pub badTo : Bool
   badTo = badDest op s (part op s) (drawingFor op s)
 
-  abbrev badFrom : Bool
+  abbrev pub badFrom : Bool
   badFrom = badSource op s (part op s) (drawingFor op s)
 
   -- there are pixels, so that 16 looks at the starts
-  starts : (badTo || badFrom) ≡ false
+  pub starts : (badTo || badFrom) ≡ false
   starts = and-false _ _ (ap not (ne-eqb (pixels (drawingFor op s)) 0 (omega arith))) (p .starts)
 
   dest-inside : destOf (drawingFor op s) i < 16 * w
@@ -92,20 +90,6 @@ module _ (op : Operation) (s : Settings) (w : ℕ) (p : Passes op s 0 w) (i : �
         depend = λ m m′ g g′ e. visit-depend w (drawingFor op s) i dest-inside dest-fits src-fits g g′ e;
       }
 
--- V is worked out anew, or stays
-vAfter-twice : (op : Operation) (s : Settings) (v : Bool) → vAfter op s (vAfter op s v) ≡ vAfter op s v
-unfolding vAfter
-vAfter-twice op s v = go (toXY op && not (eqb (windowing (s .control)) 0))
-  where
-    go : (t : Bool) → cond t (part op s .v) (cond t (part op s .v) v) ≡ cond t (part op s .v) v
-    go true = refl
-    go false = refl
-
-pub lawful : (w : ℕ) → Lawful drawings w Writes Reads
-lawful w =
-    record {
-      numbers = λ j k. refusal-ten (j .operation) (j .settings) k w;
-      placed = λ j k. refusal-place (j .operation) (j .settings) k w;
-      flags = λ j. vAfter-twice (j .operation) (j .settings);
-      foot = λ j i e. pixel-foot (j .operation) (j .settings) w (passes (j .operation) (j .settings) 0 w e) i;
-    }
+pub foot : (w : ℕ) (j : Job) (i : ℕ) → Accepted w j → i < pixelsOf j
+    → Foot w (PixelWrites (walkOf j) i) (PixelReads (walkOf j) i) (visit (walkOf j) i)
+foot w j i e = pixel-foot (j .operation) (j .settings) 0 w (passes (j .operation) (j .settings) 0 w e) i

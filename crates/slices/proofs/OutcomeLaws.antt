@@ -1,0 +1,103 @@
+-- What a call hands back and leaves, refused or not; its number and its new place. No contract cites this file. Assumes nothing.
+use mathlib.Core.Path.{_≡_, refl}
+use mathlib.Core.Logic.{_≢_, by-cases}
+use mathlib.Core.Bool.{Bool, true, false, cond, not, _&&_}
+use mathlib.Core.List.{List}
+use Prim.Native.Nat.{ℕ, _+_, _≤_}
+use native.Mathlib.Decide.{ℕ-discrete}
+use native.Mathlib.Omega.{arith}
+use borrow.Author.Tests.{eq-eqb, ne-eqb, le-ltb}
+use lib.Dec.{eqb, ltb}
+use lib.ListN.{length}
+use Rattle.memory.specs.Bits.{noMemory}
+use Rattle.pixel.specs.Control.{windowing, badControl}
+use Rattle.pixel.specs.Pixel.{badPixelSize}
+use Rattle.settings.specs.declared.Settings.{Settings}
+use Rattle.plot.specs.Drawing.{pixels}
+use Rattle.engine.specs.Engine.{visits}
+use Rattle.operation.specs.declared.Operation.{Operation}
+use Rattle.drawing.specs.declared.Outcome.{Outcome}
+use Rattle.operation.specs.Operation.{toXY}
+use Rattle.arrays.specs.Array.{part, vAfter, drawingFor}
+use Rattle.refusals.specs.Refusal.{badPitches, badWindowOf, leaves, refusalOf, refusal}
+use Rattle.drawing.specs.Draw.{refused, outcomeAt, visitedBy, outcome, drawn}
+use Rattle.refusals.proofs.RefusalLaws.{badStarts, refusal-ten, passes, refusal-of-passes}
+
+-- ---- the number of a refused call
+
+-- a number of at most 17 that a test gives, before the rest of them
+seventeen : (t : Bool) (n r : ℕ) → n ≤ 17 → r ≤ 17 → cond t n r ≤ 17
+seventeen true n r h k = h
+seventeen false n r h k = k
+
+pub refusal-seventeen : (op : Operation) (s : Settings) (k w : ℕ) → refusal op s k w ≤ 17
+unfolding refusal refusalOf
+refusal-seventeen op s k w =
+    seventeen (noMemory w) 10 _ (omega arith)
+    (seventeen (badPixelSize (s .psize)) 11 _ (omega arith)
+    (seventeen (badControl (s .control)) 12 _ (omega arith)
+    (seventeen (badPitches op s) 13 _ (omega arith)
+    (seventeen (badWindowOf op s) 14 _ (omega arith)
+    (seventeen (ltb (pixels (drawingFor op s)) k) 15 _ (omega arith)
+    (seventeen (badStarts op s) 16 _ (omega arith)
+    (seventeen (leaves w op (drawingFor op s)) 17 0 (omega arith) (omega arith))))))))
+
+-- only 15 looks at the place
+pub refusal-moved : (op : Operation) (s : Settings) (k k′ w : ℕ) → refusal op s k w ≡ 0 → k′ ≤ pixels (drawingFor op s) → refusal op s k′ w ≡ 0
+refusal-moved op s k k′ w e h =
+    let p = passes op s k w e in
+    refusal-of-passes op s k′ w
+    (record {
+      words = p .words;
+      size = p .size;
+      control = p .control;
+      pitches = p .pitches;
+      window = p .window;
+      place = le-ltb (pixels (drawingFor op s)) k′ h;
+      starts = p .starts;
+      room = p .room;
+    })
+
+-- ---- V is worked out anew, or stays
+pub vAfter-twice : (op : Operation) (s : Settings) (v : Bool) → vAfter op s (vAfter op s v) ≡ vAfter op s v
+unfolding vAfter
+vAfter-twice op s v = go (toXY op && not (eqb (windowing (s .control)) 0))
+  where
+    go : (t : Bool) → cond t (part op s .v) (cond t (part op s .v) v) ≡ cond t (part op s .v) v
+    go true = refl
+    go false = refl
+
+module _ (op : Operation) (s : Settings) where
+  -- ---- a call that is not refused, and one that is
+  abbrev pub at : Bool → ℕ → ℕ → Outcome
+  at v place visited = outcomeAt op s (part op s) (drawingFor op s) v place visited
+
+  pub outcome-accepted : (k : ℕ) (v : Bool) (b w : ℕ) → refusal op s k w ≡ 0
+      → outcome op s k v b w ≡ at (vAfter op s v) (k + visitedBy op s k b) (visitedBy op s k b)
+  unfolding outcome
+  outcome-accepted k v b w e = rw (eq-eqb _ _ e)
+
+  pub outcome-refused : (k : ℕ) (v : Bool) (b w : ℕ) → refusal op s k w ≢ 0 → outcome op s k v b w ≡ refused s k v (refusal op s k w)
+  unfolding outcome
+  outcome-refused k v b w e = rw (ne-eqb _ _ e)
+
+  pub drawn-accepted : (k b : ℕ) (m : List ℕ) → refusal op s k (length m) ≡ 0 → drawn op s k b m ≡ visits (drawingFor op s) k (visitedBy op s k b) m
+  unfolding drawn
+  drawn-accepted k b m e = rw (eq-eqb _ _ e)
+
+  pub drawn-refused : (k b : ℕ) (m : List ℕ) → refusal op s k (length m) ≢ 0 → drawn op s k b m ≡ m
+  unfolding drawn
+  drawn-refused k b m e = rw (ne-eqb _ _ e)
+
+  -- a refused call answers 10 to 17
+  pub refused-answer : (k : ℕ) (v : Bool) (b w : ℕ) → refusal op s k w ≢ 0
+      → (10 ≤ outcome op s k v b w .answer) × (outcome op s k v b w .answer ≤ 17)
+  refused-answer k v b w e = rw (outcome-refused k v b w e) (refusal-ten op s k w e, refusal-seventeen op s k w)
+
+  -- the new place is the old one plus the pixels visited
+  pub new-place : (k : ℕ) (v : Bool) (b w : ℕ) → outcome op s k v b w .place ≡ k + outcome op s k v b w .visited
+  unfolding outcomeAt
+  new-place k v b w =
+      by-cases (ℕ-discrete (refusal op s k w) 0)
+      (λ e. rw (outcome-accepted k v b w e) refl)
+      (λ e. rw (outcome-refused k v b w e) (omega arith))

@@ -1,0 +1,16 @@
+-- The proofs of specs/Cache.antt. Assumes nothing.
+use Rattle.cache.proofs.FetchLaws as cache
+use Rattle.theorems.specs.Cache.{FetchAccepted, RefusedExactly, OfCache}
+
+pub fetch-accepted : FetchAccepted
+fetch-accepted = (cache.fresh-accepted, cache.fetch-accepted)
+
+pub refused-exactly : RefusedExactly
+refused-exactly = cache.refused-exactly
+
+pub of-cache : OfCache
+of-cache =
+    record {
+      fetch-accepted = fetch-accepted;
+      refused-exactly = refused-exactly;
+    }

@@ -1,0 +1,50 @@
+-- The proofs of specs/Memory.antt, a line each: the laws of the crates below. Assumes nothing.
+use mathlib.Core.Path.{ap, sym, _∙_}
+use mathlib.Core.List.{List}
+use Rattle.memory.specs.Changed.{changedBits}
+use Rattle.memory.proofs.MemoryLaws as memory
+use Rattle.memory.proofs.ChangedLaws as changed
+use Rattle.field.proofs.RoundLaws as field
+use Rattle.timing.proofs.CaseLaws as timing
+use Rattle.image.proofs.SeedLaws as image
+use Rattle.theorems.specs.Memory.{BitsDecide, ChangedDecides, ReadBack, WriteFrame, WriteBack, PastEnd, OneCase, SeedsDiffer, OfMemory}
+
+pub bits-decide : BitsDecide
+bits-decide n m m′ g g′ e = memory.memory-ext g g′ e
+
+pub changed-decides : ChangedDecides
+changed-decides n m m′ g g′ = (
+  changed.same-of-changedBits g g′,
+  λ e. ap (λ (l : List _). changedBits m l) (sym e) ∙ changed.changedBits-same m,
+)
+
+pub read-back : ReadBack
+read-back = field.read-back
+
+pub write-frame : WriteFrame
+write-frame = field.write-frame
+
+pub write-back : WriteBack
+write-back = field.write-back
+
+pub past-end : PastEnd
+past-end = field.past-end
+
+pub one-case : OneCase
+one-case = timing.one-case
+
+pub seeds-differ : SeedsDiffer
+seeds-differ = image.image-inj
+
+pub of-memory : OfMemory
+of-memory =
+    record {
+      bits-decide = bits-decide;
+      changed-decides = changed-decides;
+      read-back = read-back;
+      write-frame = write-frame;
+      write-back = write-back;
+      past-end = past-end;
+      one-case = one-case;
+      seeds-differ = seeds-differ;
+    }
