@@ -7,7 +7,7 @@ ghost use Rattle.pixt.specs.Pixt.{drawnAt, lowBits, pixtTo, pixtFrom};
 ghost use Rattle.drav.specs.Drav.{colorAt, dravOf};
 ghost use Rattle.c_arrays.specs.Out.{isSet, answered, stored};
 ghost use Rattle.settings.specs.Settings.{settingsOf};
-ghost use Rattle.c_pixt.specs.Pixt.{badPixel, pixtResults, dravResults};
+ghost use Rattle.c_lone.specs.Pixel.{badPixel, pixtResults, dravResults};
 
 // PIXT register to memory at a linear address.
 #[no_mangle]
@@ -26,7 +26,7 @@ pub extern "C" fn bh_pixt_to_linear(
         × (now (out .exit) ≡ stored bad o (pixtResults call))
         × (now (memory .exit) ≡ cond bad m (drawnAt s at (lowBits s value) m)) ⌝ }
 {
-    c_pixt::pixt_to_linear(memory, settings, value, address, v, out)
+    c_pixt_to::pixt_to_linear(memory, settings, value, address, v, out)
 }
 
 // PIXT register to memory at an XY address.
@@ -46,7 +46,7 @@ pub extern "C" fn bh_pixt_to_xy(
         × (now (out .exit) ≡ stored bad o (pixtResults call))
         × (now (memory .exit) ≡ cond bad m (drawnAt s at (lowBits s value) m)) ⌝ }
 {
-    c_pixt::pixt_to_xy(memory, settings, value, xy, v, out)
+    c_pixt_to::pixt_to_xy(memory, settings, value, xy, v, out)
 }
 
 // PIXT memory at a linear address to register. The memory stays as lent.
@@ -65,7 +65,7 @@ pub extern "C" fn bh_pixt_from_linear(
         × (now (out .exit) ≡ stored bad o (pixtResults call))
         × (now (memory .exit) ≡ m) ⌝ }
 {
-    c_pixt::pixt_from_linear(memory, settings, address, v, out)
+    c_pixt_from::pixt_from_linear(memory, settings, address, v, out)
 }
 
 // PIXT memory at an XY address to register. The memory stays as lent.
@@ -84,7 +84,7 @@ pub extern "C" fn bh_pixt_from_xy(
         × (now (out .exit) ≡ stored bad o (pixtResults call))
         × (now (memory .exit) ≡ m) ⌝ }
 {
-    c_pixt::pixt_from_xy(memory, settings, xy, v, out)
+    c_pixt_from::pixt_from_xy(memory, settings, xy, v, out)
 }
 
 // DRAV: draws the pixel at the point in COLOR1; out[3] is the point advanced by the step.
@@ -104,5 +104,5 @@ pub extern "C" fn bh_drav(
         × (now (out .exit) ≡ stored bad o (dravResults call))
         × (now (memory .exit) ≡ cond bad m (drawnAt s at (colorAt s (placeOf s point)) m)) ⌝ }
 {
-    c_pixt::drav(memory, settings, step, point, v, out)
+    c_drav::drav(memory, settings, step, point, v, out)
 }

@@ -70,7 +70,7 @@ pub fn word_after(d: Drawing, address: u32, s: u32, word: u16) -> u16
     blend(d, top, address, s, word)
 }
 
-// The same, with the greatest pixel at hand.
+// The same, with the greatest pixel at hand. T: where the result is 0 nothing is written. T is tested first: the result is not to be guessed.
 fn blend(d: Drawing, top: u32, address: u32, s: u32, word: u16) -> u16
     requires { ⌜ top ≡ topOf (d .psize) ⌝ }
     ensures { λ r. ⌜ r ≡ wordAfter (d .pp) (d .t) top (d .pmask) address (bitAnd s top) word ⌝ }
@@ -78,9 +78,11 @@ fn blend(d: Drawing, top: u32, address: u32, s: u32, word: u16) -> u16
     let planes = planes_at(d, top, address);
     let old = shifted(wide(word), address) & planes;
     let result = process(d, top, s & planes, old) & planes;
-    // T: where the result is 0 nothing is written.
-    if d.t & (result == 0) {
-        return word;
+    if d.t {
+        if result == 0 {
+            return word;
+        }
+        return replace(word, address, planes, result);
     }
     replace(word, address, planes, result)
 }

@@ -1,9 +1,10 @@
 -- `blend` meets its contract: the enabled bits of the pixel by the operation, put back with or without T.
-use mathlib.Core.Path.{_≡_, sym, ap, _∙_}
+use mathlib.Core.Path.{_≡_, sym, ap, ap₂, _∙_}
 use mathlib.Core.Bool.{Bool, true, false, cond, _&&_}
 use Prim.Native.Nat.{ℕ, _^_, _≤_, _<_, min}
 use native.Mathlib.Omega.{arith}
 use borrow.Author.Needs.{needs}
+use borrow.Author.Tests.{eq-eqb, ne-eqb}
 use lib.Bits.{bitAnd, and-le-r}
 use lib.Dec.{eqb}
 use Rattle.pixel.specs.Pixel.{wordAfter}
@@ -35,22 +36,23 @@ process-requires c κs =
     let p = c .before .before in
     (p .before .pre, omega (arith, planes-le p, cut-le p (p .before .args .s)), omega (arith, planes-le p, cut-le p (c .shifted .result)))
 
--- the definition's word, by the result that the code has and by what its test says
+-- the definition's word, by the result that the code has and by what its tests say
 defined : (c : tie.After-process) (b : Bool)
     → (let a = c .before .before .before .before .args in
     let planes : ℕ = c .before .before .before .planes-at .result in
     let r : ℕ = bitAnd (c .process .result) planes in
     (a .d .t && eqb r 0) ≡ b
-    → wordAfter (a .d .pp) (a .d .t) (a .top) (a .d .pmask) (a .address) (bitAnd (a .s) (a .top)) (a .word) ≡ cond b (a .word) (replaced (a .word) (a .address) planes r))
+    → cond b (a .word) (replaced (a .word) (a .address) planes r)
+    ≡ wordAfter (a .d .pp) (a .d .t) (a .top) (a .d .pmask) (a .address) (bitAnd (a .s) (a .top)) (a .word))
 defined c b e =
     let p = c .before .before .before in
     let a = p .before .args in
     let h : a .word < 2 ^ 16 = omega arith in
     rw (sym e, c .process .ensures, c .before .shifted .ensures, c .before .before .wide .ensures, p .planes-at .ensures, p .before .pre)
-    (wordAfter-replaced (min (a .d .psize) 16) (a .d .pmask) (a .address) (a .word) h (a .d .pp) (a .d .t) (a .s))
+    (sym (wordAfter-replaced (min (a .d .psize) 16) (a .d .pmask) (a .address) (a .word) h (a .d .pp) (a .d .t) (a .s)))
 
 returns : tie.Need-returns
-returns c = sym (defined (c .before .before) true (c .if1 .taken))
+returns c = defined (c .before .before) true (ap₂ _&&_ (c .before .if1 .taken) (eq-eqb _ _ (c .if2 .taken)))
 
 replace-requires : tie.Need-replace-requires
 replace-requires c κs =
@@ -59,7 +61,18 @@ replace-requires c κs =
     (omega (arith, planes-le p), omega (arith, planes-le p, cut-le p (q .process .result)))
 
 returns-2 : tie.Need-returns-2
-returns-2 c = c .replace .ensures ∙ sym (defined (c .before .before .before) false (c .before .if1 .left))
+returns-2 c = c .replace .ensures ∙ defined (c .before .before .before) false (ap₂ _&&_ (c .before .before .if1 .taken) (ne-eqb _ _ (c .before .if2 .left)))
+
+replace-requires-2 : tie.Need-replace-requires-2
+replace-requires-2 c κs =
+    let q = c .before in
+    let p = q .before .before .before in
+    (omega (arith, planes-le p), omega (arith, planes-le p, cut-le p (q .process .result)))
+
+returns-3 : tie.Need-returns-3
+returns-3 c =
+    let q = c .before .before in
+    c .replace2 .ensures ∙ defined q false (ap (λ (t : Bool). t && eqb (bitAnd (q .process .result) (q .before .before .before .planes-at .result)) 0) (c .before .if1 .left))
 
 pub blend-spec : {M : Type 1} → statement M
 blend-spec =
@@ -71,4 +84,6 @@ blend-spec =
     process-requires
     returns
     replace-requires
-    returns-2)
+    returns-2
+    replace-requires-2
+    returns-3)

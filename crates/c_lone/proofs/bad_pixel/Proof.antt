@@ -1,7 +1,7 @@
 -- `bad_pixel` meets its contract.
 use borrow.Author.Needs.{needs}
-use Rattle.c_pixt.proofs.bad_pixel.Statement.{statement}
-use Rattle.c_pixt.proofs.bad_pixel.Tie as tie
+use Rattle.c_lone.proofs.bad_pixel.Statement.{statement}
+use Rattle.c_lone.proofs.bad_pixel.Tie as tie
 
 returns : tie.Need-returns
 returns c = rw (c .bad-settings .ensures)

@@ -1,8 +1,8 @@
--- `pixt_from_xy` meets its contract.
+-- `pixt_to_xy` meets its contract.
 use mathlib.Core.Path.{refl}
 use borrow.Author.Needs.{needs}
-use Rattle.c_pixt.proofs.pixt_from_xy.Statement.{statement}
-use Rattle.c_pixt.proofs.pixt_from_xy.Tie as tie
+use Rattle.c_pixt_to.proofs.pixt_to_xy.Statement.{statement}
+use Rattle.c_pixt_to.proofs.pixt_to_xy.Tie as tie
 
 returns : tie.Need-returns
 returns c = rw (← c .before .bad-pixel .ensures, c .if1 .taken) (refl, refl, refl)
@@ -11,11 +11,11 @@ returns-2 : tie.Need-returns-2
 returns-2 c =
     let p = c .before .before .before .before .before .before in
     let i = p .before .before .before in
-    let e = rw (p .before .before .settings-of .ensures) at (p .pixt-from-xy .ensures) in
+    let e = rw (p .before .before .settings-of .ensures) at (p .pixt-to-xy .ensures) in
     rw (c .before .before .hand-out .ensures, e .0, e .1, ← i .before .bad-pixel .ensures, i .if1 .left) (search needs)
 
-pub pixt-from-xy-spec : {M : Type 1} → statement M
-pixt-from-xy-spec =
+pub pixt-to-xy-spec : {M : Type 1} → statement M
+pixt-to-xy-spec =
     tie.close
     (tie.spec
     (λ c κs. search needs)

@@ -1,4 +1,4 @@
--- PIXT and DRAV for C: bad arguments, and the results. Assumes nothing.
+-- A lone pixel for C: bad arguments, and the results of PIXT and DRAV. Assumes nothing.
 use mathlib.Core.Bool.{Bool, _||_}
 use mathlib.Core.List.{List, [], _∷_}
 use Prim.Native.Nat.{ℕ}

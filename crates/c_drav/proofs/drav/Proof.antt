@@ -1,8 +1,8 @@
 -- `drav` meets its contract.
 use mathlib.Core.Path.{refl}
 use borrow.Author.Needs.{needs}
-use Rattle.c_pixt.proofs.drav.Statement.{statement}
-use Rattle.c_pixt.proofs.drav.Tie as tie
+use Rattle.c_drav.proofs.drav.Statement.{statement}
+use Rattle.c_drav.proofs.drav.Tie as tie
 
 returns : tie.Need-returns
 returns c = rw (← c .before .bad-pixel .ensures, c .if1 .taken) (refl, refl, refl)

@@ -1,7 +1,7 @@
 -- `hand_out` meets its contract.
 use borrow.Author.Needs.{needs}
-use Rattle.c_pixt.proofs.hand_out.Statement.{statement}
-use Rattle.c_pixt.proofs.hand_out.Tie as tie
+use Rattle.c_lone.proofs.hand_out.Statement.{statement}
+use Rattle.c_lone.proofs.hand_out.Tie as tie
 
 returns : tie.Need-returns
 returns c =
