@@ -1,4 +1,4 @@
--- What a call hands back and leaves, refused or not; its number and its new place. No contract cites this file. Assumes nothing.
+-- What a call hands back and leaves, refused or not; its refusal at other places, its new place. No contract cites this file. Assumes nothing.
 use mathlib.Core.Path.{_≡_, refl}
 use mathlib.Core.Logic.{_≢_, by-cases}
 use mathlib.Core.Bool.{Bool, true, false, cond, not, _&&_}
@@ -7,11 +7,9 @@ use Prim.Native.Nat.{ℕ, _+_, _≤_}
 use native.Mathlib.Decide.{ℕ-discrete}
 use native.Mathlib.Omega.{arith}
 use borrow.Author.Tests.{eq-eqb, ne-eqb, le-ltb}
-use lib.Dec.{eqb, ltb}
+use lib.Dec.{eqb}
 use lib.ListN.{length}
-use Rattle.memory.specs.Bits.{noMemory}
-use Rattle.pixel.specs.Control.{windowing, badControl}
-use Rattle.pixel.specs.Pixel.{badPixelSize}
+use Rattle.pixel.specs.Control.{windowing}
 use Rattle.settings.specs.declared.Settings.{Settings}
 use Rattle.plot.specs.Drawing.{pixels}
 use Rattle.engine.specs.Engine.{visits}
@@ -19,28 +17,9 @@ use Rattle.operation.specs.declared.Operation.{Operation}
 use Rattle.drawing.specs.declared.Outcome.{Outcome}
 use Rattle.operation.specs.Operation.{toXY}
 use Rattle.arrays.specs.Array.{part, vAfter, drawingFor}
-use Rattle.refusals.specs.Refusal.{badPitches, badWindowOf, leaves, refusalOf, refusal}
+use Rattle.refusals.specs.Refusal.{refusal}
 use Rattle.drawing.specs.Draw.{refused, outcomeAt, visitedBy, outcome, drawn}
-use Rattle.refusals.proofs.RefusalLaws.{badStarts, refusal-ten, passes, refusal-of-passes}
-
--- ---- the number of a refused call
-
--- a number of at most 17 that a test gives, before the rest of them
-seventeen : (t : Bool) (n r : ℕ) → n ≤ 17 → r ≤ 17 → cond t n r ≤ 17
-seventeen true n r h k = h
-seventeen false n r h k = k
-
-pub refusal-seventeen : (op : Operation) (s : Settings) (k w : ℕ) → refusal op s k w ≤ 17
-unfolding refusal refusalOf
-refusal-seventeen op s k w =
-    seventeen (noMemory w) 10 _ (omega arith)
-    (seventeen (badPixelSize (s .psize)) 11 _ (omega arith)
-    (seventeen (badControl (s .control)) 12 _ (omega arith)
-    (seventeen (badPitches op s) 13 _ (omega arith)
-    (seventeen (badWindowOf op s) 14 _ (omega arith)
-    (seventeen (ltb (pixels (drawingFor op s)) k) 15 _ (omega arith)
-    (seventeen (badStarts op s) 16 _ (omega arith)
-    (seventeen (leaves w op (drawingFor op s)) 17 0 (omega arith) (omega arith))))))))
+use Rattle.refusals.proofs.RefusalLaws.{passes, refusal-of-passes}
 
 -- only 15 looks at the place
 pub refusal-moved : (op : Operation) (s : Settings) (k k′ w : ℕ) → refusal op s k w ≡ 0 → k′ ≤ pixels (drawingFor op s) → refusal op s k′ w ≡ 0
@@ -88,11 +67,6 @@ module _ (op : Operation) (s : Settings) where
   pub drawn-refused : (k b : ℕ) (m : List ℕ) → refusal op s k (length m) ≢ 0 → drawn op s k b m ≡ m
   unfolding drawn
   drawn-refused k b m e = rw (ne-eqb _ _ e)
-
-  -- a refused call answers 10 to 17
-  pub refused-answer : (k : ℕ) (v : Bool) (b w : ℕ) → refusal op s k w ≢ 0
-      → (10 ≤ outcome op s k v b w .answer) × (outcome op s k v b w .answer ≤ 17)
-  refused-answer k v b w e = rw (outcome-refused k v b w e) (refusal-ten op s k w e, refusal-seventeen op s k w)
 
   -- the new place is the old one plus the pixels visited
   pub new-place : (k : ℕ) (v : Bool) (b w : ℕ) → outcome op s k v b w .place ≡ k + outcome op s k v b w .visited

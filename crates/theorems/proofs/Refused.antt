@@ -12,7 +12,9 @@ use Rattle.drav.specs.Drav.{dravOf}
 use Rattle.plot.specs.Drawing.{pixels}
 use Rattle.arrays.specs.Array.{drawingFor}
 use Rattle.drawing.specs.Draw.{outcomeAt, visitedBy, outcome, drawn}
-use Rattle.slices.proofs.OutcomeLaws as outcome
+use Rattle.refusals.proofs.RefusalLaws.{refusal-ten}
+use Rattle.slices.proofs.OutcomeLaws.{outcome-refused}
+use Rattle.run.proofs.LinesLaws.{refusal-le}
 use Rattle.theorems.specs.Refused.{DrawRefused, DrawAccepted, DrawNumbers, PixtRefused, DravRefused, WriteRefused, ImageRefused, FetchRefused, OfRefusals}
 
 pub draw-refused : DrawRefused
@@ -28,7 +30,8 @@ draw-accepted op s place v budget words e = rw (eq-eqb _ _ e) (go (eqb (place + 
     go false = omega arith
 
 pub draw-numbers : DrawNumbers
-draw-numbers = outcome.refused-answer
+draw-numbers op s place v budget words h =
+    rw (outcome-refused op s place v budget words h) (refusal-ten op s place words h, refusal-le op s place words)
 
 pub pixt-refused : PixtRefused
 unfolding pixtTo pixtFrom
