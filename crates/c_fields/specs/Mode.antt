@@ -2,8 +2,8 @@
 use mathlib.Core.Bool.{Bool, cond}
 use Prim.Native.Nat.{ℕ}
 use lib.Dec.{eqb, ltb}
-use Rattle.timing.specs.declared.Mode.{Mode}
-use Rattle.timing.specs.declared.Mode.the-variants.{Indirect, Postincrement, Predecrement}
+use Rattle.states.specs.declared.Mode.{Mode}
+use Rattle.states.specs.declared.Mode.the-variants.{Indirect, Postincrement, Predecrement}
 
 -- 0 indirect, 1 postincrement, 2 predecrement; no other number is a mode
 abbrev pub badMode : ℕ → Bool

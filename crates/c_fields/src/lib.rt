@@ -5,10 +5,10 @@ ghost use mathlib.Core.List.{[], _∷_};
 ghost use lib.ListN.{length};
 ghost use Rattle.field.specs.Field.{refusal, fieldRead, fieldWritten};
 ghost use Rattle.timing.specs.Cycles.{cyclesOf};
-ghost use Rattle.timing.specs.MoveStates.{moveStates};
+ghost use Rattle.states.specs.MoveStates.{moveStates};
 ghost use Rattle.c_arrays.specs.Out.{isSet, short, answered, stored};
 ghost use Rattle.c_fields.specs.Mode.{badMode, modeOf};
-use timing::Mode;
+use states::Mode;
 
 // Reads a field; out[0] is the register. The memory stays as lent.
 pub fn read(memory: &mut [u16], address: u32, size: u32, signed: u32, out: &mut [u32]) -> u32
@@ -64,7 +64,7 @@ pub fn move_states(
     if (out.len() < 1) | (2 < mode) {
         return 9;
     }
-    let r = timing::move_states(address, size, mode_of(mode), signed != 0, cached != 0);
+    let r = states::move_states(address, size, mode_of(mode), signed != 0, cached != 0);
     out[0] = r.states;
     r.answer
 }

@@ -1,5 +1,5 @@
 -- Laws of `specs/Cache.antt`. No contract cites this file. Assumes nothing.
-use mathlib.Core.Path.{_≡_, refl, _∙_}
+use mathlib.Core.Path.{_≡_, refl, ap, _∙_}
 use mathlib.Core.Bool.{Bool, true, false, cond, _||_, and-comm, and-assoc, and-false, and-eq-true-iff}
 use mathlib.Core.List.{List, [], _∷_, _++_}
 use Prim.Native.Nat.{ℕ, _-_, _^_, _≤_, _<_}
@@ -11,10 +11,15 @@ use lib.Seq.{set-getD}
 use Rattle.lists.specs.Search.{any, first, anyPair}
 use Rattle.lists.proofs.TestLaws.{or-eq-false, eqb-comm}
 use Rattle.lists.proofs.SearchLaws.{any-first, getD-first, any-getD, any-none, any-set, any-set-same, anyPair-set, anyPair-set-same, any-snoc, anyPair-snoc}
-use Rattle.cache.specs.declared.Segment.{Segment}
+use Rattle.segments.specs.declared.Segment.{Segment}
+use Rattle.order.specs.Order.{badOrder, latest}
+use Rattle.order.proofs.OrderLaws.{any-latest, anyPair-latest}
+use Rattle.segments.specs.Segments.{tooHigh, holds, clash, matches, noSegment}
+use Rattle.segments.proofs.SegmentLaws.{clash-comm}
 use Rattle.cache.specs.declared.Cache.{Cache}
+use Rattle.cache.specs.declared.Fetched.{Fetched}
 use Rattle.cache.specs.declared.Kind.the-variants.{Hit, SubsegmentMiss, SegmentMiss, Disabled, Refused}
-use Rattle.cache.specs.Cache.{badOrder, tooHigh, holds, clash, refused, startOf, subsegmentOf, matches, latest, store, empty, withFlag, noSegment, segmentAt, hit, subsegmentMiss, segmentMiss, matched, lookup, disabled, fetched}
+use Rattle.cache.specs.Cache.{refused, refusal, startOf, subsegmentOf, store, empty, withFlag, segmentAt, hit, subsegmentMiss, segmentMiss, matched, lookup, disabled, fetched, answerOf}
 
 -- what holds of a state that is not refused
 pub record Accepted (c : Cache) : Type 0 where
@@ -54,11 +59,37 @@ module _ (c : Cache) (address control : ℕ) where
   unfolding fetched
   fetched-lookup e d = rw (e, d)
 
--- What a look-up hands back, by the place of the first match
+-- The number that a fetch answers is that of its state, whatever it finds
 
-pub first-match : (start i : ℕ) (l : List Segment) → length l ≡ 4 → i ≡ first (matches start) l
-    → (i ≡ first (matches start) l) × (any (matches start) l ≡ ltb i 4)
-first-match start i l h e = (e, rw (e, ← h) (any-first (matches start) l))
+module _ (c : Cache) (address control : ℕ) where
+  pub answer-refusal : answerOf (fetched c address control .kind) ≡ refusal c
+  unfolding fetched lookup
+  answer-refusal =
+      go (refused c) (disabled control) (any (matches start) (c .segments)) (getD (segmentAt c i .present) sub false)
+    where
+      start : ℕ
+      start = startOf address
+
+      sub : ℕ
+      sub = subsegmentOf address
+
+      i : ℕ
+      i = first (matches start) (c .segments)
+
+      go : (r d m f : Bool)
+          → answerOf ((cond r (record { kind = Refused; cache = c })
+          (cond d (record { kind = Disabled; cache = c })
+          (cond m (cond f (hit c i) (subsegmentMiss c i sub)) (segmentMiss c start sub)))) .kind) ≡ cond r 19 0
+      go true d m f = refl
+      go false true m f = refl
+      go false false true true = refl
+      go false false true false = refl
+      go false false false f = refl
+
+  pub fetched-answer : {r : Fetched} → r ≡ fetched c address control → (r ≡ fetched c address control) × (answerOf (r .kind) ≡ refusal c)
+  fetched-answer e = (e, ap (λ (f : Fetched). answerOf (f .kind)) e ∙ answer-refusal)
+
+-- What a look-up hands back, by the place of the first match
 
 module _ (c : Cache) (start sub i : ℕ) (e : i ≡ first (matches start) (c .segments)) (f : any (matches start) (c .segments) ≡ ltb i 4) (r : Cache) where
   pub lookup-hit : i < 4 → getD (segmentAt c i .present) sub false ≡ true → r ≡ store c i (segmentAt c i)
@@ -77,27 +108,6 @@ module _ (c : Cache) (start sub i : ℕ) (e : i ≡ first (matches start) (c .se
   lookup-miss l q = rw (q, f, le-ltb i 4 l)
 
 -- A look-up keeps an accepted state accepted
-
-any-latest : (p : ℕ → Bool) (k : ℕ) (l : List ℕ) → any p (latest k l) ≡ any p l
-unfolding any latest
-any-latest p k [] = refl
-any-latest p k (x ∷ l) = go (eqb x k) (any-latest p k l)
-  where
-    go : (b : Bool) → any p (latest k l) ≡ any p l → any p (cond b (l ++ (x ∷ [])) (x ∷ latest k l)) ≡ any p (x ∷ l)
-    go true e = any-snoc p x l
-    go false e = rw e
-
-anyPair-latest : (k : ℕ) (l : List ℕ) → anyPair eqb (latest k l) ≡ anyPair eqb l
-unfolding any anyPair latest
-anyPair-latest k [] = refl
-anyPair-latest k (x ∷ l) = go (eqb x k) (anyPair-latest k l)
-  where
-    go : (b : Bool) → anyPair eqb (latest k l) ≡ anyPair eqb l → anyPair eqb (cond b (l ++ (x ∷ [])) (x ∷ latest k l)) ≡ anyPair eqb (x ∷ l)
-    go true e = anyPair-snoc eqb eqb-comm x l
-    go false e = rw (any-latest (eqb x) k l, e)
-
-clash-comm : (s t : Segment) → clash s t ≡ clash t s
-clash-comm s t = rw (and-comm (holds s) (holds t), eqb-comm (s .start) (t .start))
 
 module _ (c : Cache) (a : Accepted c) where
   latest-accepted : (i : ℕ) (l : List Segment) → any tooHigh l ≡ false → anyPair clash l ≡ false

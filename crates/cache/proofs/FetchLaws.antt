@@ -1,15 +1,15 @@
--- An accepted state stays accepted, and a fetch answers Refused exactly for a refused one. No contract cites this file. Assumes nothing.
-use mathlib.Core.Path.{_≡_, refl}
+-- An accepted state stays accepted, and a fetch answers 19 exactly for a refused one. No contract cites this file. Assumes nothing.
+use mathlib.Core.Path.{_≡_, refl, sym, ap, _∙_}
 use mathlib.Core.Logic.{_↔_}
 use mathlib.Core.Bool.{Bool, true, false, cond}
 use Prim.Native.Nat.{ℕ, _^_, _<_}
 use native.Mathlib.Omega.{arith}
-use lib.ListN.{getD}
-use Rattle.lists.specs.Search.{any, first, anyPair}
+use Rattle.lists.specs.Search.{any, anyPair}
 use Rattle.cache.specs.declared.Cache.{Cache}
-use Rattle.cache.specs.declared.Kind.the-variants.{Disabled, Refused}
-use Rattle.cache.specs.Cache.{refused, startOf, subsegmentOf, matches, segmentAt, hit, subsegmentMiss, segmentMiss, lookup, disabled, fetched, freshCache}
-use Rattle.cache.proofs.CacheLaws.{accepted, not-refused, fetched-disabled, fetched-lookup, lookup-accepted}
+use Rattle.cache.specs.declared.Kind.{Kind}
+use Rattle.cache.specs.declared.Kind.the-variants.{Hit, SubsegmentMiss, SegmentMiss, Disabled, Refused}
+use Rattle.cache.specs.Cache.{refused, refusal, disabled, fetched, freshCache, answerOf}
+use Rattle.cache.proofs.CacheLaws.{accepted, not-refused, fetched-disabled, fetched-lookup, lookup-accepted, answer-refusal}
 
 pub fresh-accepted : refused freshCache ≡ false
 unfolding any anyPair refused
@@ -22,26 +22,22 @@ fetch-accepted c address control l ok = go (disabled control) refl
     go true d = rw (fetched-disabled c address control ok d) ok
     go false d = rw (fetched-lookup c address control ok d) (not-refused (lookup-accepted c (accepted c ok) _ _ (omega arith)))
 
-pub refused-exactly : (c : Cache) (address control : ℕ) → (fetched c address control .kind ≡ Refused) ↔ (refused c ≡ true)
-unfolding fetched lookup
+-- 19 is the number of no other kind
+refused-of : (k : Kind) → answerOf k ≡ 19 → k ≡ Refused
+refused-of Hit e = absurd (omega arith)
+refused-of SubsegmentMiss e = absurd (omega arith)
+refused-of SegmentMiss e = absurd (omega arith)
+refused-of Disabled e = absurd (omega arith)
+refused-of Refused e = refl
+
+of-refusal : (r : Bool) → _≡_ {A = ℕ} (cond r 19 0) 19 → r ≡ true
+of-refusal true e = refl
+of-refusal false e = absurd (omega arith)
+
+pub refused-exactly : (c : Cache) (address control : ℕ)
+    → (answerOf (fetched c address control .kind) ≡ refusal c) × ((fetched c address control .kind ≡ Refused) ↔ (refused c ≡ true))
 refused-exactly c address control =
-    go (refused c) (disabled control) (any (matches start) (c .segments)) (getD (segmentAt c i .present) sub false)
-  where
-    start : ℕ
-    start = startOf address
-
-    sub : ℕ
-    sub = subsegmentOf address
-
-    i : ℕ
-    i = first (matches start) (c .segments)
-
-    go : (r d m f : Bool)
-        → ((cond r (record { kind = Refused; cache = c })
-        (cond d (record { kind = Disabled; cache = c })
-        (cond m (cond f (hit c i) (subsegmentMiss c i sub)) (segmentMiss c start sub)))) .kind ≡ Refused) ↔ (r ≡ true)
-    go true d m f = (λ e. refl, λ e. refl)
-    go false true m f = (λ e. cc, λ e. cc)
-    go false false true true = (λ e. cc, λ e. cc)
-    go false false true false = (λ e. cc, λ e. cc)
-    go false false false f = (λ e. cc, λ e. cc)
+    let a = answer-refusal c address control in (
+      a,
+      (λ e. of-refusal (refused c) (sym a ∙ ap answerOf e), λ e. refused-of _ (a ∙ rw e)),
+    )

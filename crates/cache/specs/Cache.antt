@@ -1,12 +1,15 @@
 -- The instruction cache (scope, "Cache"; 004 section 5.4): what a fetch answers, and the state that it hands back.
 -- A state of the type has four segments of eight flags each, and an order of four. Assumes nothing.
-use mathlib.Core.Bool.{Bool, true, false, cond, _&&_, _||_}
-use mathlib.Core.List.{List, [], _∷_, _++_}
-use Prim.Native.Nat.{ℕ, _-_, _/_, _%_, _^_}
-use lib.Dec.{eqb, ltb, leb}
+use mathlib.Core.Bool.{Bool, true, false, cond, _||_}
+use mathlib.Core.List.{[], _∷_}
+use Prim.Native.Nat.{ℕ, _/_, _%_, _^_}
+use lib.Dec.{eqb}
 use lib.ListN.{getD, set, replicate}
 use Rattle.lists.specs.Search.{any, first, anyPair}
-use Rattle.cache.specs.declared.Segment.{Segment}
+use Rattle.segments.specs.declared.Segment.{Segment}
+use Rattle.order.specs.Order.{badOrder}
+unfoldable pub use Rattle.order.specs.Order.{latest}
+use Rattle.segments.specs.Segments.{tooHigh, clash, matches, noSegment}
 use Rattle.cache.specs.declared.Cache.{Cache}
 use Rattle.cache.specs.declared.Kind.{Kind}
 use Rattle.cache.specs.declared.Kind.the-variants.{Hit, SubsegmentMiss, SegmentMiss, Disabled, Refused}
@@ -14,24 +17,12 @@ use Rattle.cache.specs.declared.Fetched.{Fetched}
 
 -- Refusal 19
 
--- the order isn't a permutation of the four segments: a place names none of them, or two places name the same
-abbrev pub badOrder : List ℕ → Bool
-badOrder order = any (λ k. leb 4 k) order || anyPair eqb order
-
--- a start address is above 2^23 - 1
-abbrev pub tooHigh : Segment → Bool
-tooHigh s = ltb (2 ^ 23 - 1) (s .start)
-
--- a segment holds something: one of its flags is set
-abbrev pub holds : Segment → Bool
-holds s = any (λ flag. flag) (s .present)
-
--- two segments that hold something have the same start address
-abbrev pub clash : Segment → Segment → Bool
-clash s t = holds s && holds t && eqb (s .start) (t .start)
-
 unfoldable pub refused : Cache → Bool
 refused c = badOrder (c .order) || any tooHigh (c .segments) || anyPair clash (c .segments)
+
+-- the number that a fetch answers: 19 exactly where its state is refused, else 0 (done)
+abbrev pub refusal : Cache → ℕ
+refusal c = cond (refused c) 19 0
 
 -- A fetch
 
@@ -42,15 +33,6 @@ startOf address = address / 2 ^ 9
 -- bits 6-8 choose the subsegment of 4 words
 abbrev pub subsegmentOf : ℕ → ℕ
 subsegmentOf address = address / 2 ^ 6 % 2 ^ 3
-
--- a segment matches the start address that it has; one without flags matches nothing
-abbrev pub matches : ℕ → Segment → Bool
-matches start s = holds s && eqb start (s .start)
-
--- segment k becomes the latest used: it moves to the end of the order
-unfoldable pub latest : ℕ → List ℕ → List ℕ
-latest k [] = []
-latest k (x ∷ order) = cond (eqb x k) (order ++ (x ∷ [])) (x ∷ latest k order)
 
 -- segment i becomes s and the latest used
 abbrev pub store : Cache → ℕ → Segment → Cache
@@ -64,10 +46,7 @@ empty start = record { start = start; present = replicate 8 false }
 abbrev pub withFlag : ℕ → Segment → Segment
 withFlag sub s = record { start = s .start; present = set (s .present) sub true }
 
--- segment i; what stands for one past the end is never looked at
-abbrev pub noSegment : Segment
-noSegment = record { start = 0; present = [] }
-
+-- segment i
 abbrev pub segmentAt : Cache → ℕ → Segment
 segmentAt c i = getD (c .segments) i noSegment
 
@@ -111,7 +90,7 @@ fetched c address control =
 abbrev pub freshCache : Cache
 freshCache = record { segments = replicate 4 (empty 0); order = 0 ∷ 1 ∷ 2 ∷ 3 ∷ [] }
 
--- The answer's number: 19 for a refused state, 0 (done) for the others
+-- The answer's number of each kind
 abbrev pub answerOf : Kind → ℕ
 answerOf Hit = 0
 answerOf SubsegmentMiss = 0

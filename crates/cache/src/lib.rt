@@ -1,17 +1,10 @@
 // The instruction cache (scope, "Cache"; 004 section 5.4): four segments of eight subsegments, and the order of last use.
 // No public function has a requires: a state that is no cache's is refused with 19 and handed back.
 ghost use mathlib.Core.Path.{_≡_};
-ghost use mathlib.Core.Bool.{false, cond};
+ghost use mathlib.Core.Bool.{false};
 ghost use Prim.Native.Nat.{_<_};
-ghost use lib.Dec.{ltb};
-ghost use Rattle.lists.specs.Search.{any, first, anyPair};
-ghost use Rattle.cache.specs.Cache.{holds, badOrder, tooHigh, clash, refused, matches, latest, store, lookup, disabled, fetched, freshCache, answerOf};
-
-// Bits 9 to 31 of the segment's bit address, and a flag for each of its subsegments of 4 words.
-pub struct Segment {
-    pub start: u32,
-    pub present: [bool; 8],
-}
+ghost use Rattle.cache.specs.Cache.{refused, refusal, store, lookup, disabled, fetched, freshCache, answerOf};
+use segments::Segment;
 
 // order[0] is the least recently used segment and order[3] the latest.
 pub struct Cache {
@@ -60,9 +53,9 @@ impl Cache {
         }
     }
 
-    // A fetch at a bit address under CONTROL: the kind of answer, and the next state.
+    // A fetch at a bit address under CONTROL: the kind of answer, whose number is 19 exactly where the state is refused, and the next state.
     pub fn fetch(self, address: u32, control: u16) -> Fetched
-        ensures { λ r. ⌜ r ≡ fetched self address control ⌝ }
+        ensures { λ r. ⌜ (r ≡ fetched self address control) × (answerOf (r .kind) ≡ refusal self) ⌝ }
     {
         let refused = self.is_refused();
         let disabled = is_disabled(control);
@@ -88,7 +81,7 @@ impl Cache {
         ensures { λ r. ⌜ r ≡ lookup self start sub ⌝ }
     {
         let segments = self.segments;
-        let i = place(segments, start);
+        let i = segments::place(segments, start);
         if i < 4 {
             let s = segments[i];
             let mut flags = s.present;
@@ -133,7 +126,7 @@ impl Cache {
         let mut segments = self.segments;
         segments[i] = s;
         let order = self.order;
-        let next = used(order, i as u8);
+        let next = order::used(order, i as u8);
         Cache {
             segments,
             order: next,
@@ -146,7 +139,9 @@ impl Cache {
     {
         let order = self.order;
         let segments = self.segments;
-        is_bad_order(order) | any_too_high(segments) | any_clash(segments)
+        order::is_bad_order(order)
+            | segments::any_too_high(segments)
+            | segments::any_clash(segments)
     }
 }
 
@@ -155,111 +150,4 @@ fn is_disabled(control: u16) -> bool
     ensures { λ r. ⌜ r ≡ disabled control ⌝ }
 {
     control / 32768 % 2 == 1
-}
-
-// Is the order no permutation of the four segments?
-fn is_bad_order(order: [u8; 4]) -> bool
-    ensures { λ r. ⌜ r ≡ badOrder order ⌝ }
-{
-    let a = order[0];
-    let b = order[1];
-    let c = order[2];
-    let d = order[3];
-    let beyond = (4 <= a) | (4 <= b) | (4 <= c) | (4 <= d);
-    let twice = (a == b) | (a == c) | (a == d) | (b == c) | (b == d) | (c == d);
-    beyond | twice
-}
-
-// Is some start address above 2^23 - 1?
-fn any_too_high(segments: [Segment; 4]) -> bool
-    ensures { λ r. ⌜ r ≡ any tooHigh segments ⌝ }
-{
-    let a = segments[0];
-    let b = segments[1];
-    let c = segments[2];
-    let d = segments[3];
-    (8388607 < a.start) | (8388607 < b.start) | (8388607 < c.start) | (8388607 < d.start)
-}
-
-// Do two segments that hold something have the same start address?
-fn any_clash(segments: [Segment; 4]) -> bool
-    ensures { λ r. ⌜ r ≡ anyPair clash segments ⌝ }
-{
-    let a = segments[0];
-    let b = segments[1];
-    let c = segments[2];
-    let d = segments[3];
-    clashes(a, b) | clashes(a, c) | clashes(a, d) | clashes(b, c) | clashes(b, d) | clashes(c, d)
-}
-
-// Do both segments hold something, and have the same start address?
-fn clashes(s: Segment, t: Segment) -> bool
-    ensures { λ r. ⌜ r ≡ clash s t ⌝ }
-{
-    let p = holds_some(s);
-    let q = holds_some(t);
-    p & q & (s.start == t.start)
-}
-
-// Is one of the segment's flags set?
-fn holds_some(s: Segment) -> bool
-    ensures { λ r. ⌜ r ≡ holds s ⌝ }
-{
-    let p = s.present;
-    p[0] | p[1] | p[2] | p[3] | p[4] | p[5] | p[6] | p[7]
-}
-
-// The first segment that matches the start address; 4 if none does.
-fn place(segments: [Segment; 4], start: u32) -> usize
-    ensures { λ r. ⌜ (r ≡ first (matches start) segments) × (any (matches start) segments ≡ ltb r 4) ⌝ }
-{
-    let a = segments[0];
-    let b = segments[1];
-    let c = segments[2];
-    let d = segments[3];
-    first_true(
-        holds_some(a) & (start == a.start),
-        holds_some(b) & (start == b.start),
-        holds_some(c) & (start == c.start),
-        holds_some(d) & (start == d.start),
-    )
-}
-
-// The place of the first that is true; 4 if none is.
-fn first_true(a: bool, b: bool, c: bool, d: bool) -> usize
-    ensures { λ r. ⌜ r ≡ cond a 0 (cond b 1 (cond c 2 (cond d 3 4))) ⌝ }
-{
-    if a {
-        return 0;
-    }
-    if b {
-        return 1;
-    }
-    if c {
-        return 2;
-    }
-    if d {
-        return 3;
-    }
-    4
-}
-
-// The order with segment k as the latest used.
-fn used(order: [u8; 4], k: u8) -> [u8; 4]
-    ensures { λ r. ⌜ r ≡ latest k order ⌝ }
-{
-    let a = order[0];
-    let b = order[1];
-    let c = order[2];
-    let d = order[3];
-    if a == k {
-        return [b, c, d, a];
-    }
-    if b == k {
-        return [a, c, d, b];
-    }
-    if c == k {
-        return [a, b, d, c];
-    }
-    [a, b, c, d]
 }

@@ -5,7 +5,7 @@ ghost use mathlib.Core.List.{[], _∷_};
 ghost use lib.ListN.{length};
 ghost use Rattle.field.specs.Field.{refusal, fieldRead, fieldWritten};
 ghost use Rattle.timing.specs.Cycles.{cyclesOf};
-ghost use Rattle.timing.specs.MoveStates.{moveStates};
+ghost use Rattle.states.specs.MoveStates.{moveStates};
 ghost use Rattle.c_arrays.specs.Out.{isSet, short, answered, stored};
 ghost use Rattle.c_fields.specs.Mode.{badMode, modeOf};
 

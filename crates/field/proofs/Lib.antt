@@ -1,4 +1,3 @@
 pub mod WindowLaws
 pub mod RegisterLaws
-pub mod CallLaws
 pub mod RoundLaws

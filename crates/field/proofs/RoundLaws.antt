@@ -14,7 +14,7 @@ use Rattle.memory.proofs.NumberLaws.{bit-number}
 use Rattle.memory.proofs.MemoryLaws.{bitAt-lt}
 use Rattle.memory.proofs.FieldLaws.{length-withField, bitAt-withField, read-withField, withField-same, writtenBit-below, writtenBit-above}
 use Rattle.field.specs.Field.{refusal, registerBit, register, fieldRead, fieldWritten}
-use Rattle.field.proofs.CallLaws.{accepted}
+use Rattle.field_refusal.proofs.RefusalLaws.{accepted}
 use Rattle.field.proofs.RegisterLaws.{register-zero}
 
 -- a call that is refused changes nothing, and one that is not writes the field

@@ -3,7 +3,7 @@ ghost use mathlib.Core.Path.{_≡_};
 ghost use Prim.Native.Nat.{ℕ, _+_, _*_, _/_, _%_, _^_, _<_, _≤_};
 ghost use lib.ListN.{length};
 ghost use Rattle.memory.specs.Bits.{Memory, bitAt, number, withBits, withField};
-ghost use Rattle.field.specs.Field.{badSize, refusal, register, fieldRead, fieldWritten};
+ghost use Rattle.field.specs.Field.{refusal, register, fieldRead, fieldWritten};
 
 // The answer, 0 or the refusal's number, and the register of 32 bits.
 pub struct FieldRead {
@@ -15,7 +15,7 @@ pub struct FieldRead {
 pub fn read(memory: &mut [u16], address: u32, size: u32, signed: bool) -> FieldRead
     ensures { λ r. ⌜ (r ≡ fieldRead (now (memory .entry)) address size signed) × (now (memory .exit) ≡ now (memory .entry)) ⌝ }
 {
-    let answer = refusal_of(memory.len(), address, size);
+    let answer = field_refusal::refusal_of(memory.len(), address, size);
     if answer != 0 {
         return FieldRead { answer, value: 0 };
     }
@@ -27,35 +27,12 @@ pub fn read(memory: &mut [u16], address: u32, size: u32, signed: bool) -> FieldR
 pub fn write(memory: &mut [u16], address: u32, size: u32, value: u32) -> u32
     ensures { λ r. ⌜ (r ≡ refusal (length (now (memory .entry))) address size) × (now (memory .exit) ≡ fieldWritten (now (memory .entry)) address size value) ⌝ }
 {
-    let answer = refusal_of(memory.len(), address, size);
+    let answer = field_refusal::refusal_of(memory.len(), address, size);
     if answer != 0 {
         return answer;
     }
     write_bits(memory, address as u64, size as u64, value as u64);
     answer
-}
-
-// Refusal 18: is this no field size?
-pub fn bad_size(size: u32) -> bool
-    ensures { λ r. ⌜ r ≡ badSize size ⌝ }
-{
-    (size == 0) | (32 < size)
-}
-
-// The refusal's number of a field call, or 0.
-fn refusal_of(words: usize, address: u32, size: u32) -> u32
-    ensures { λ r. ⌜ r ≡ refusal words address size ⌝ }
-{
-    if memory::no_memory(words) {
-        return 10;
-    }
-    if bad_size(size) {
-        return 18;
-    }
-    if 16 * (words as u64) < address as u64 + size as u64 {
-        return 17;
-    }
-    0
 }
 
 // The register after a read.

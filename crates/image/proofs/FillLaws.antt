@@ -1,69 +1,109 @@
--- The loop of `fill_image`: what holds at its start, what a turn keeps, and what follows at the end. Assumes nothing.
+-- Laws of `specs/Words.antt`; and of the loops of `fill` and `put_last` what holds at the start, what a turn keeps, and what follows at the
+-- end. Assumes nothing.
 use mathlib.Core.Path.{_≡_, refl, sym, ap, _∙_}
-use mathlib.Core.List.{List, _++_}
+use mathlib.Core.List.{List, [], _∷_, _++_}
 use Prim.Native.Nat.{ℕ, zero, suc, _+_, _-_, _/_, _%_, _^_, _<_, _≤_}
 use native.Mathlib.Omega.{arith}
-use native.Mathlib.Numerals.{add-one}
-use borrow.Author.Tests.{ne-eqb}
+use native.Mathlib.Nat.{add-zero}
 use lib.ListN.{length, take, set, length-set}
-use lib.Seq.{take-suc-set, take-at, take-all, append-snoc}
-use Rattle.image.specs.declared.Words.{Words}
+use lib.Seq.{take-at, take-all, set-out}
+use Rattle.generator.specs.Step.{stepped}
+use Rattle.generator.proofs.StepLaws.{stepped-lt}
 use Rattle.image.specs.Image.{words, draws, image}
-use Rattle.image.specs.Words.{readied}
+use Rattle.image.specs.Words.{stored}
 
--- of the words of n draws the first i are in the memory; then come those of w, and those of `more` draws, which is enough for n words
-pub record Filled (n seed : ℕ) (memory : List ℕ) (w : Words) (i : ℕ) : Type 0 where
-  pub size : length memory ≡ n
-  pub more : ℕ
-  pub enough : n ≤ i + w .left + more
-  pub ahead : draws n seed ≡ take i memory ++ (words (w .left) (w .rest) ++ draws more (w .state))
+pub length-stored : (k : ℕ) (m : List ℕ) (i x : ℕ) → length (stored k m i x) ≡ length m
+unfolding stored
+length-stored zero m i x = refl
+length-stored (suc k) m i x = length-stored k (set m i (x % 2 ^ 16)) (i + 1) (x / 2 ^ 16) ∙ length-set m i (x % 2 ^ 16)
 
-pub start : (memory : List ℕ) (seed : ℕ) → Filled (length memory) seed memory (record { state = seed; rest = 0; left = 0 }) 0
-start memory seed = record { size = refl; more = length memory; enough = omega arith; ahead = refl }
+-- past the end all is cut off
+stored-out : (k : ℕ) (m : List ℕ) (i x : ℕ) → length m ≤ i → stored k m i x ≡ m
+unfolding stored
+stored-out zero m i x l = refl
+stored-out (suc k) m i x l = rw (set-out m i (x % 2 ^ 16) l) (stored-out k m (i + 1) (x / 2 ^ 16) (omega (arith, l)))
 
--- w without its lowest word
-abbrev pub given : Words → Words
-given w = record { state = w .state; rest = w .rest / 2 ^ 16; left = w .left - 1 }
+-- four words, as `put` stores them
+pub stored-four : (m : List ℕ) (i x : ℕ) → x < 2 ^ 64
+    → set (set (set (set m i (x % 2 ^ 16)) (i + 1) (x / 2 ^ 16 % 2 ^ 16)) (i + 2) (x / 2 ^ 32 % 2 ^ 16)) (i + 3) (x / 2 ^ 48) ≡ stored 4 m i x
+unfolding stored
+stored-four m i x h =
+    let i₂ : i + 2 ≡ i + 1 + 1 = omega arith in
+    let i₃ : i + 3 ≡ i + 1 + 1 + 1 = omega arith in
+    let w₂ : x / 2 ^ 32 % 2 ^ 16 ≡ x / 2 ^ 16 / 2 ^ 16 % 2 ^ 16 = omega arith in
+    let w₃ : x / 2 ^ 48 ≡ x / 2 ^ 16 / 2 ^ 16 / 2 ^ 16 % 2 ^ 16 = omega (arith, h) in
+    λ j. set (set (set (set m i (x % 2 ^ 16)) (i + 1) (x / 2 ^ 16 % 2 ^ 16)) (i₂ j) (w₂ j)) (i₃ j) (w₃ j)
 
--- `ready` has a word to give, and the words to come are the same
-module _ (state rest : ℕ) where
-  abbrev holding : ℕ → Words
-  holding left = record { state = state; rest = rest; left = left }
+-- ---- the loop of `put_last`: the `left` low words of rest are still to be stored, from i on, and the memory ends there
+pub record Putting (after memory : List ℕ) (rest i : ℕ) : Type 0 where
+  pub left : ℕ
+  pub enough : length memory ≤ i + left
+  pub ahead : stored left memory i rest ≡ after
 
-  ready : {n seed : ℕ} {memory : List ℕ} {i : ℕ} (left : ℕ) → i < n → Filled n seed memory (holding left) i
-      → (0 < readied (holding left) .left) × Filled n seed memory (readied (holding left)) i
-  ready {memory = memory} {i = i} zero l f =
-      let e : f .more ≡ suc (f .more - 1) = omega (arith, f .enough) in (
-        omega arith,
-        record {
-          size = f .size;
-          more = f .more - 1;
-          enough = omega (arith, f .enough);
-          ahead = f .ahead ∙ ap (λ (k : ℕ). take i memory ++ draws k state) e;
-        },
-      )
-  ready (suc k) l f = rw (ne-eqb (suc k) 0 (λ e. omega arith)) (omega arith, f)
-
-module _ {n seed : ℕ} {memory : List ℕ} {w : Words} {i : ℕ} where
-  -- the lowest word of w is stored
-  store : i < length memory → 0 < w .left → Filled n seed memory w i → Filled n seed (set memory i (w .rest % 2 ^ 16)) (given w) (i + 1)
-  store l p f =
-      let e : w .left ≡ suc (w .left - 1) = omega arith in
+module _ {after memory : List ℕ} {rest i : ℕ} (p : Putting after memory rest i) where
+  pub put-next : i < length memory → Putting after (set memory i (rest % 2 ^ 16)) (rest / 2 ^ 16) (i + 1)
+  unfolding stored
+  put-next l =
+      let e : suc (p .left - 1) ≡ p .left = omega (arith, p .enough, l) in
       record {
-        size = length-set memory i _ ∙ f .size;
-        more = f .more;
-        enough = omega (arith, f .enough);
-        ahead =
-            rw (add-one, take-suc-set memory i (w .rest % 2 ^ 16) l, append-snoc)
-            (f .ahead ∙ ap (λ (k : ℕ). take i memory ++ (words k (w .rest) ++ draws (f .more) (w .state))) e);
+        left = p .left - 1;
+        enough = omega (arith, p .enough, l, length-set memory i (rest % 2 ^ 16));
+        ahead = ap (λ (k : ℕ). stored k memory i rest) e ∙ p .ahead;
       }
 
-module _ {n seed : ℕ} {memory : List ℕ} {w : Words} {i : ℕ} (f : Filled n seed memory w i) where
-  -- a turn of the loop, with r what `ready` returned: it has a word to give, which is stored
-  pub turn : {r : Words} → i < length memory → r ≡ readied w → (0 < r .left) × Filled n seed (set memory i (r .rest % 2 ^ 16)) (given r) (i + 1)
-  turn l e =
-      let (p, g) = ready (w .state) (w .rest) (w .left) (omega (arith, f .size)) f in
-      rw e (p, store l p g)
+  pub put-done : length memory ≤ i → memory ≡ after
+  put-done l = sym (stored-out (p .left) memory i rest l) ∙ p .ahead
 
-  pub finish : length memory ≤ i → memory ≡ image n seed
-  finish l = sym (ap (take n) (f .ahead) ∙ rw (take-all i memory l) (take-at memory _ n (f .size)))
+-- ---- of the words that a memory is to have, the first i stand in it
+
+-- the next one is stored
+set-ahead : (m : List ℕ) (i w : ℕ) (ws : List ℕ) → take (length m) (take i m ++ w ∷ ws) ≡ take (length m) (take (suc i) (set m i w) ++ ws)
+set-ahead [] i w ws = refl
+set-ahead (y ∷ m) zero w ws = refl
+set-ahead (y ∷ m) (suc i) w ws = ap (λ (l : List ℕ). y ∷ l) (set-ahead m i w ws)
+
+-- the next k are stored
+stored-ahead : {n : ℕ} (k : ℕ) (m : List ℕ) (i x : ℕ) (ws : List ℕ) → length m ≡ n
+    → take n (take i m ++ (words k x ++ ws)) ≡ take n (take (i + k) (stored k m i x) ++ ws)
+unfolding stored
+stored-ahead {n} zero m i x ws e = ap (λ (j : ℕ). take n (take j m ++ ws)) (sym (add-zero i))
+stored-ahead {n} (suc k) m i x ws e =
+    let m′ = set m i (x % 2 ^ 16) in
+    let ws′ = words k (x / 2 ^ 16) ++ ws in
+    let next : suc i ≡ i + 1 = omega arith in
+    let last : i + 1 + k ≡ i + suc k = omega arith in
+    rw (sym e) (set-ahead m i (x % 2 ^ 16) ws′)
+    ∙ ap (λ (j : ℕ). take n (take j m′ ++ ws′)) next
+    ∙ stored-ahead k m′ (i + 1) (x / 2 ^ 16) ws (length-set m i (x % 2 ^ 16) ∙ e)
+    ∙ ap (λ (j : ℕ). take n (take j (stored k m′ (i + 1) (x / 2 ^ 16)) ++ ws)) last
+
+-- ---- the loop of `fill`: the first `at` words of the image stand in the memory, and those of `more` draws from the state on come next
+pub record Filled (n seed at state : ℕ) (memory : List ℕ) : Type 0 where
+  pub fits : state < 2 ^ 64
+  pub size : length memory ≡ n
+  pub more : ℕ
+  pub enough : n ≤ at + more
+  pub ahead : image n seed ≡ take n (take at memory ++ draws more state)
+
+pub start : (memory : List ℕ) (seed : ℕ) → seed < 2 ^ 64 → Filled (length memory) seed 0 seed memory
+start memory seed h = record { fits = h; size = refl; more = length memory; enough = omega arith; ahead = refl }
+
+module _ {n seed at state : ℕ} {memory : List ℕ} (f : Filled n seed at state memory) where
+  -- a turn: one draw, whose four words are stored
+  pub turn : at < n → Filled n seed (at + 4) (stepped state) (stored 4 memory at (stepped state))
+  turn l =
+      let x = stepped state in
+      let e : f .more ≡ suc (f .more - 1) = omega (arith, f .enough, l) in
+      record {
+        fits = stepped-lt state (f .fits);
+        size = length-stored 4 memory at x ∙ f .size;
+        more = f .more - 1;
+        enough = omega (arith, f .enough, l);
+        ahead =
+            f .ahead
+            ∙ ap (λ (k : ℕ). take n (take at memory ++ draws k state)) e
+            ∙ stored-ahead 4 memory at x (draws (f .more - 1) x) (f .size);
+      }
+
+  pub finish : n ≤ at → memory ≡ image n seed
+  finish l = sym (f .ahead ∙ rw (take-all at memory (omega (arith, f .size, l))) (take-at memory _ n (f .size)))

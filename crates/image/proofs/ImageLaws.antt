@@ -4,7 +4,8 @@ use mathlib.Core.List.{[], _∷_}
 use Prim.Native.Nat.{ℕ, zero, suc, _*_}
 use native.Mathlib.Omega.{arith}
 use lib.ListN.{length, length-take}
-use Rattle.image.specs.Image.{stepped, draws, image}
+use Rattle.generator.specs.Step.{stepped}
+use Rattle.image.specs.Image.{draws, image}
 
 pub length-draws : (k x : ℕ) → length (draws k x) ≡ 4 * k
 length-draws zero x = refl

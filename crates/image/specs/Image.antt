@@ -1,25 +1,10 @@
 -- The image of a seed (the scope, "Plans and images"). Assumes nothing.
 use mathlib.Core.Bool.{cond}
 use mathlib.Core.List.{List, [], _∷_, _++_}
-use Prim.Native.Nat.{ℕ, zero, suc, _*_, _/_, _%_, _^_}
-use lib.Bits.{bitXor}
+use Prim.Native.Nat.{ℕ, zero, suc, _/_, _%_, _^_}
 use lib.ListN.{length, take}
 use Rattle.memory.specs.Bits.{noMemory}
-
--- x xor (x shifted left k, low 64 bits)
-abbrev pub xorLeft : ℕ → ℕ → ℕ
-xorLeft k x = bitXor x (x * 2 ^ k % 2 ^ 64)
-
--- x xor (x shifted right k)
-abbrev pub xorRight : ℕ → ℕ → ℕ
-xorRight k x = bitXor x (x / 2 ^ k)
-
--- the generator advanced at a draw: xor left 13, then xor right 7, then xor left 17
-unfoldable pub stepped : ℕ → ℕ
-stepped x =
-    let a = xorLeft 13 x in
-    let b = xorRight 7 a in
-    xorLeft 17 b
+unfoldable pub use Rattle.generator.specs.Step.{stepped}
 
 -- the k low words of x, lowest first
 abbrev pub words : ℕ → ℕ → List ℕ

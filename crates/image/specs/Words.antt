@@ -1,12 +1,9 @@
--- The words that `fill_image` still has to give. The scope knows nothing of them. Assumes nothing.
-use mathlib.Core.Bool.{cond}
-use lib.Dec.{eqb}
-use Rattle.image.specs.declared.Words.{Words}
-use Rattle.image.specs.Image.{stepped}
+-- The words of a draw in a memory. The scope knows nothing of this step. Assumes nothing.
+use mathlib.Core.List.{List}
+use Prim.Native.Nat.{ℕ, zero, suc, _+_, _/_, _%_, _^_}
+use lib.ListN.{set}
 
--- with a word to give: the four of a new draw where none is left
-abbrev pub readied : Words → Words
-readied w =
-    cond (eqb (w .left) 0)
-    (record { state = stepped (w .state); rest = stepped (w .state); left = 4 })
-    w
+-- m with the k low words of x from place i on, lowest first; what lies beyond its end is cut off
+unfoldable pub stored : ℕ → List ℕ → ℕ → ℕ → List ℕ
+stored zero m i x = m
+stored (suc k) m i x = stored k (set m i (x % 2 ^ 16)) (i + 1) (x / 2 ^ 16)

@@ -1,31 +1,9 @@
 // The image of a seed: the words that the generator gives over a lent memory.
 ghost use mathlib.Core.Path.{_≡_};
+ghost use Prim.Native.Nat.{_+_, _<_, _≤_};
 ghost use lib.ListN.{length};
-ghost use Rattle.image.specs.Image.{stepped, image, refusal, imaged};
-ghost use Rattle.image.specs.Words.{readied};
-
-// One advance of the generator, by value.
-pub fn step(x: u64) -> u64
-    ensures { λ r. ⌜ r ≡ stepped x ⌝ }
-{
-    let a = x ^ (x << 13);
-    let b = a ^ (a >> 7);
-    b ^ (b << 17)
-}
-
-// The generator, advanced in place at each draw.
-pub struct Generator {
-    pub state: u64,
-}
-
-// One draw: advances the generator in place by a step, and answers its new state.
-pub fn draw(g: &mut Generator) -> u64
-    ensures { λ r. ⌜ (r ≡ stepped (now (g .entry) .state)) × (now (g .exit) .state ≡ stepped (now (g .entry) .state)) ⌝ }
-{
-    let next = step(g.state);
-    g.state = next;
-    next
-}
+ghost use Rattle.image.specs.Image.{image, refusal, imaged};
+ghost use Rattle.image.specs.Words.{stored};
 
 // Fills the memory with the image of the seed, and answers 0 or the refusal's number.
 pub fn fill_image(memory: &mut [u16], seed: u64) -> u32
@@ -38,58 +16,43 @@ pub fn fill_image(memory: &mut [u16], seed: u64) -> u32
     0
 }
 
-// Four words of each draw, lowest first, cut off at the memory's end.
+// Four words of each draw, lowest first, cut off at the memory's end. One generator is lent to every draw.
 fn fill(memory: &mut [u16], seed: u64)
     ensures { λ r. ⌜ now (memory .exit) ≡ image (length (now (memory .entry))) seed ⌝ }
 {
-    let mut w = Words {
-        state: seed,
-        rest: 0,
-        left: 0,
-    };
-    let mut i = 0;
+    let mut g = generator::Generator { state: seed };
+    let mut at = 0;
+    while at < memory.len() {
+        let x = generator::draw(&mut g);
+        put(memory, at, x);
+        at += 4;
+    }
+}
+
+// Puts the four words of x into the memory from `at` on, lowest first, as far as it goes.
+fn put(memory: &mut [u16], at: usize, x: u64)
+    requires { ⌜ at < length (now memory) ⌝ }
+    ensures { λ r. ⌜ now (memory .exit) ≡ stored 4 (now (memory .entry)) at x ⌝ }
+{
+    if memory.len() - at < 4 {
+        return put_last(memory, at, x);
+    }
+    memory[at] = (x % 65536) as u16;
+    memory[at + 1] = (x / 65536 % 65536) as u16;
+    memory[at + 2] = (x / 4294967296 % 65536) as u16;
+    memory[at + 3] = (x / 281474976710656) as u16;
+}
+
+// The same where the memory ends first.
+fn put_last(memory: &mut [u16], at: usize, x: u64)
+    requires { ⌜ length (now memory) ≤ at + 4 ⌝ }
+    ensures { λ r. ⌜ now (memory .exit) ≡ stored 4 (now (memory .entry)) at x ⌝ }
+{
+    let mut rest = x;
+    let mut i = at;
     while i < memory.len() {
-        let v = w.ready();
-        memory[i] = (v.rest % 65536) as u16;
-        let left = v.left - 1;
-        w = Words {
-            state: v.state,
-            rest: v.rest / 65536,
-            left,
-        };
+        memory[i] = (rest % 65536) as u16;
+        rest /= 65536;
         i += 1;
     }
-}
-
-// The generator's state, and the words of its last draw that are still to be given: the left lowest words of rest.
-struct Words {
-    state: u64,
-    rest: u64,
-    left: u64,
-}
-
-impl Words {
-    // With a word to give: a new draw where none is left.
-    fn ready(self) -> Words
-        ensures { λ r. ⌜ r ≡ readied self ⌝ }
-    {
-        if self.left == 0 {
-            let x = drawn(self.state);
-            return Words {
-                state: x,
-                rest: x,
-                left: 4,
-            };
-        }
-        self
-    }
-}
-
-// One draw with plain parameters: a generator at the state x is made, lent, and read.
-fn drawn(x: u64) -> u64
-    ensures { λ r. ⌜ r ≡ stepped x ⌝ }
-{
-    let mut g = Generator { state: x };
-    draw(&mut g);
-    g.state
 }

@@ -2,7 +2,7 @@
 use cache::Cache;
 use cache::Kind;
 use libc::STDOUT_FILENO;
-use timing::Mode;
+use states::Mode;
 
 fn main() {
     show_field();
@@ -38,7 +38,7 @@ fn show_field() {
     number(cycles.read as u64);
     text(b"\t");
     number(cycles.write as u64);
-    let states = timing::move_states(12, 8, Mode::Indirect, false, true);
+    let states = states::move_states(12, 8, Mode::Indirect, false, true);
     text(b"\n  states of MOVE in cache\t");
     number(states.states as u64);
     let answer = field::write(memory, 12, 8, 51);

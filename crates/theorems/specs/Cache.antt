@@ -4,7 +4,7 @@ use mathlib.Core.Path.{_≡_}
 use mathlib.Core.Bool.{true, false}
 use mathlib.Core.Logic.{_↔_}
 use Prim.Native.Nat.{ℕ, _^_, _<_}
-use Rattle.cache.specs.Cache.{refused, fetched, freshCache}
+use Rattle.cache.specs.Cache.{refused, refusal, fetched, freshCache, answerOf}
 use Rattle.cache.specs.declared.Cache.{Cache}
 use Rattle.cache.specs.declared.Kind.the-variants.{Refused}
 
@@ -15,9 +15,11 @@ FetchAccepted =
     (refused freshCache ≡ false)
     × ((c : Cache) (address control : ℕ) → address < 2 ^ 32 → refused c ≡ false → refused (fetched c address control .cache) ≡ false)
 
--- A fetch answers Refused exactly when the state that it was given is refused, also with CD 1.
+-- A fetch answers 19, as Refused, exactly when the state that it was given is refused, also with CD 1, and 0 otherwise.
 abbrev pub RefusedExactly : Type 0
-RefusedExactly = (c : Cache) (address control : ℕ) → (fetched c address control .kind ≡ Refused) ↔ (refused c ≡ true)
+RefusedExactly =
+    (c : Cache) (address control : ℕ)
+    → (answerOf (fetched c address control .kind) ≡ refusal c) × ((fetched c address control .kind ≡ Refused) ↔ (refused c ≡ true))
 
 -- every statement of this file
 pub record OfCache : Type 0 where

@@ -4,7 +4,7 @@ use mathlib.Core.Bool.{Bool, cond, _&&_}
 use mathlib.Core.List.{List, [], _∷_}
 use Prim.Native.Nat.{ℕ, _+_, _%_}
 use lib.Dec.{eqb, leb, ltb}
-use Rattle.field.specs.Field.{badSize}
+use Rattle.field_refusal.specs.Refusal.{badSize}
 use Rattle.timing.specs.declared.Case.{Case}
 use Rattle.timing.specs.declared.Case.the-variants.{A, B, C, D, E, F, G}
 use Rattle.timing.specs.declared.Cycles.{Cycles}

@@ -2,10 +2,10 @@
 // and ended by byte 10: 180 bytes. The first number is the kind. The numbers of each kind are listed at the function that compares it.
 use cache::Cache;
 use cache::Kind;
-use cache::Segment;
 use libc::STDIN_FILENO;
 use libc::STDOUT_FILENO;
-use timing::Mode;
+use segments::Segment;
+use states::Mode;
 ghost use Prim.Native.Nat.{_<_, _≤_};
 ghost use Rattle.io.specs.Counts.{Counts};
 
@@ -122,7 +122,7 @@ fn states_agree(n: [u32; 20]) -> bool {
 }
 
 fn states_of(n: [u32; 20], mode: Mode) -> bool {
-    let r = timing::move_states(n[1], n[2], mode, n[4] == 1, n[5] == 1);
+    let r = states::move_states(n[1], n[2], mode, n[4] == 1, n[5] == 1);
     (r.answer == n[6]) & (r.states == n[7])
 }
 

@@ -41,7 +41,7 @@ returns-2 c =
     let e = k .before .fetch .ensures in
     let o = m .cache-of .ensures in
     let g = x .if1 .left in
-    (rw (c .answer .ensures, e, o, g), rw (k .kind-number .ensures, e, o, g), rw (h .hand-back .ensures, e, o, g))
+    (rw (c .answer .ensures, e .1, o, g), rw (k .kind-number .ensures, e .0, o, g), rw (h .hand-back .ensures, e .0, o, g))
 
 pub fetch-spec : {M : Type 1} → statement M
 fetch-spec =

@@ -3,7 +3,7 @@ use mathlib.Core.Path.{_≡_, refl, sym, _∙_}
 use borrow.Author.Tests.{eq-eqb, ne-eqb}
 use lib.ListN.{length}
 use Rattle.field.specs.Field.{refusal, fieldRead}
-use Rattle.field.proofs.CallLaws.{accepted}
+use Rattle.field_refusal.proofs.RefusalLaws.{accepted}
 use borrow.Author.Needs.{needs}
 use Rattle.field.proofs.read.Statement.{statement}
 use Rattle.field.proofs.read.Tie as tie

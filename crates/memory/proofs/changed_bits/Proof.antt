@@ -58,7 +58,7 @@ unfolding differing
 loop-again c =
     let l = c .before .before .before .before in
     let x = l .before .before .before .before .args in
-    let one : c .difference .result ≡ differs (bitAt (x .before .now) (l .loop .a)) (bitAt (x .after .now) (l .loop .a)) = cc in
+    let one : c .difference .result ≡ differs (bitAt (x .before .now) (l .loop .a)) (bitAt (x .after .now) (l .loop .a)) = c .difference .ensures ∙ ap₂ differs (c .before .before .bit-at .ensures) (c .before .bit-at2 .ensures) in
     (ap₂ _+_ (l .loop .inv .0) one ∙ ap (differing (x .before .now) (x .after .now)) (sym (add-one (l .loop .a))), search needs, search needs, search needs)
 
 returns : tie.Need-returns Inv-loop μ-loop

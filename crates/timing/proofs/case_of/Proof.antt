@@ -13,9 +13,6 @@ returns : tie.Need-returns
 unfolding caseOf
 returns c = rw (c .if1 .taken)
 
-add-if2 : tie.Need-add-if2
-add-if2 c = search needs
-
 returns-2 : tie.Need-returns-2
 unfolding caseOf
 returns-2 c = rw (c .before .if1 .left, c .if2 .taken)
@@ -24,9 +21,6 @@ returns-3 : tie.Need-returns-3
 unfolding caseOf
 returns-3 c = rw (c .before .before .if1 .left, c .before .if2 .left, c .if3 .taken)
 
-add-if4 : tie.Need-add-if4
-add-if4 c = search needs
-
 returns-4 : tie.Need-returns-4
 unfolding caseOf
 returns-4 c = rw (c .before .before .before .if1 .left, c .before .before .if2 .left, c .before .if3 .left, c .if4 .taken)
@@ -34,12 +28,6 @@ returns-4 c = rw (c .before .before .before .if1 .left, c .before .before .if2 .
 returns-5 : tie.Need-returns-5
 unfolding caseOf
 returns-5 c = rw (c .before .before .before .before .if1 .left, c .before .before .before .if2 .left, c .before .before .if3 .left, c .before .if4 .left, c .if5 .taken)
-
-add-if6 : tie.Need-add-if6
-add-if6 c = search needs
-
-add-if6-2 : tie.Need-add-if6-2
-add-if6-2 c = search needs
 
 returns-6 : tie.Need-returns-6
 unfolding caseOf
@@ -53,14 +41,11 @@ pub case-of-spec : {M : Type 1} → statement M
 case-of-spec =
     tie.close
     (tie.spec
+    (λ c. search needs)
     returns
-    add-if2
     returns-2
     returns-3
-    add-if4
     returns-4
     returns-5
-    add-if6
-    add-if6-2
     returns-6
     returns-7)

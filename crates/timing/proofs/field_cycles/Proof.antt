@@ -1,9 +1,7 @@
 -- `timing::field_cycles` meets its contract. Assumes nothing.
 use mathlib.Core.Path.{_≡_, sym, _∙_}
 use mathlib.Core.Bool.{false}
-use native.Mathlib.Omega.{arith}
-use Rattle.field.specs.Field.{badSize}
-use Rattle.field.proofs.CallLaws.{good-size}
+use Rattle.field_refusal.specs.Refusal.{badSize}
 use Rattle.timing.specs.Cycles.{cyclesOf}
 use borrow.Author.Needs.{needs}
 use Rattle.timing.proofs.field_cycles.Statement.{statement}
@@ -20,7 +18,7 @@ unfolding cyclesOf
 returns c = rw (sym (c .before .bad-size .ensures), c .if1 .taken)
 
 case-of-requires : tie.Need-case-of-requires
-case-of-requires c κs = (omega arith, good-size _ (past-18 c) .most)
+case-of-requires c κs = search needs
 
 read-cycles-requires : tie.Need-read-cycles-requires
 read-cycles-requires c κs = search needs

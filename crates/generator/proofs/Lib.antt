@@ -1,0 +1,3 @@
+pub mod XorLaws
+pub mod StepLaws
+pub mod GeneratorLaws

@@ -1,0 +1,36 @@
+// The order in which the four segments of the instruction cache were last used. No public function has a requires.
+ghost use mathlib.Core.Path.{_≡_};
+ghost use Rattle.order.specs.Order.{badOrder, latest};
+
+// Is the order no permutation of the four segments?
+pub fn is_bad_order(order: [u8; 4]) -> bool
+    ensures { λ r. ⌜ r ≡ badOrder order ⌝ }
+{
+    let a = order[0];
+    let b = order[1];
+    let c = order[2];
+    let d = order[3];
+    let beyond = (4 <= a) | (4 <= b) | (4 <= c) | (4 <= d);
+    let twice = (a == b) | (a == c) | (a == d) | (b == c) | (b == d) | (c == d);
+    beyond | twice
+}
+
+// The order with segment k as the latest used.
+pub fn used(order: [u8; 4], k: u8) -> [u8; 4]
+    ensures { λ r. ⌜ r ≡ latest k order ⌝ }
+{
+    let a = order[0];
+    let b = order[1];
+    let c = order[2];
+    let d = order[3];
+    if a == k {
+        return [b, c, d, a];
+    }
+    if b == k {
+        return [a, c, d, b];
+    }
+    if c == k {
+        return [a, b, d, c];
+    }
+    [a, b, c, d]
+}

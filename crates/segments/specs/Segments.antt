@@ -1,0 +1,31 @@
+-- The segments of the instruction cache (scope, "Cache"; 004 section 5.4). Assumes nothing.
+use mathlib.Core.Bool.{Bool, _&&_}
+use mathlib.Core.List.{[]}
+use Prim.Native.Nat.{ℕ, _-_, _^_}
+use lib.Dec.{eqb, ltb}
+use Rattle.lists.specs.Search.{any}
+use Rattle.segments.specs.declared.Segment.{Segment}
+
+-- Refusal 19
+
+-- a start address is above 2^23 - 1
+abbrev pub tooHigh : Segment → Bool
+tooHigh s = ltb (2 ^ 23 - 1) (s .start)
+
+-- a segment holds something: one of its flags is set
+abbrev pub holds : Segment → Bool
+holds s = any (λ flag. flag) (s .present)
+
+-- two segments that hold something have the same start address
+abbrev pub clash : Segment → Segment → Bool
+clash s t = holds s && holds t && eqb (s .start) (t .start)
+
+-- A fetch
+
+-- a segment matches the start address that it has; one without flags matches nothing
+abbrev pub matches : ℕ → Segment → Bool
+matches start s = holds s && eqb start (s .start)
+
+-- what stands for a segment past the fourth, and is never looked at
+abbrev pub noSegment : Segment
+noSegment = record { start = 0; present = [] }
