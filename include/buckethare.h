@@ -28,7 +28,7 @@
      21  a name of the plan is unknown or came before
      22  a value of the plan is too large for its name, or stands twice on its axis
      23  the plan has more than 8 axes, or more than 64 values on one
-     24  a point isn't below the plan's number of points
+     24  a point that is asked for isn't below the plan's number of points
    The lowest number that applies is given, but a field call checks 10, 18, 17 in that order, and in
    a plan the first bad line decides. A call that answers 9 changes nothing. With another refusal
    the results are 0, but for bh_fetch, V, the point of bh_drav, the place and the registers of
@@ -199,7 +199,10 @@ uint32_t bh_changed(const uint16_t *before, size_t words_before, const uint16_t 
 #define BH_NAMES 14
 
 /* A table has a plan's axes one after another: of each the number of its name, how many values it
-   has, and these. So many elements are enough for every plan. */
+   has, and these. So many elements are enough for every plan. A table doesn't hold axes, and has no
+   points, where there are more than 8, a name isn't below 14, there are not 1 to 64 values, they
+   aren't all there, or one of them is too large for its name (2^32 or more; of CONTROL, PSIZE and
+   PMASK 65,536 or more). */
 #define BH_TABLE 528
 
 /* The results of reading are five numbers: the line of the refusal (0 where there is none), the
@@ -215,20 +218,20 @@ uint32_t bh_plan_read(const uint8_t *text, size_t length, uint64_t *table, size_
 
 /* The 14 values of a point, in the order of the names. axes is how many of the table's axes are the
    plan's. Answers 0, 9 (out has less than 14 elements), or 24 where the point isn't below the
-   number of points, the table doesn't hold the axes, or there are more than 8; then out stays. */
+   number of points: every one where the table doesn't hold the axes. Then out stays. */
 uint32_t bh_experiment(const uint64_t *table, size_t table_length, uint64_t axes, uint64_t point,
                        uint64_t *out, size_t out_length);
 
-/* No line of a listing that has a point is longer. */
+/* No line of a listing is longer: run::LINE of the library. */
 #define BH_LINE 80
 
 /* Runs `count` points from `first` on, each over the image of its SEED, and puts their lines of the
    listing at the start of out; written[0] is how many bytes these are. The image and the memory are
    those of the last point then; with count 0 they stay. What they hold before doesn't matter.
    Answers 0; 9 (draw is above 7, the image and the memory aren't of one size up to 32,768 words, out
-   has less than 80 x count bytes, or written is empty); 10 where they are empty; or 24 where some
-   point isn't below the number of points, the table doesn't hold the axes, or there are more than 8.
-   With 10 and 24 written[0] is 0, and nothing else changes. */
+   has less than BH_LINE x count bytes, or written is empty); 10 where they are empty; or 24 where a
+   point that is asked for isn't below the number of points. With count 0 none is asked for. A table
+   that doesn't hold the axes has no points. With 10 and 24 written[0] is 0, and nothing else changes. */
 uint32_t bh_lines(const uint64_t *table, size_t table_length, uint64_t axes, uint64_t draw,
                   uint64_t first, uint64_t count, uint16_t *image, size_t image_words,
                   uint16_t *memory, size_t memory_words, uint8_t *out, size_t out_length,

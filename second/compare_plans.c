@@ -17,6 +17,10 @@ static uint64_t points;
 static uint64_t lines_by_answer[25];
 static uint64_t experiments_by_answer[25];
 
+/* Tables that were tried by themselves: those that hold axes, those that don't, those that don't for
+   a value too large for its name; and runs that ask for no point. */
+static uint64_t tables_held, tables_not_held, tables_too_large, runs_of_none;
+
 /* ---- Reporting ---- */
 
 /* A byte as printf '%b' takes it. */
@@ -101,9 +105,14 @@ static size_t table_used(void)
     return used;
 }
 
+/* The length of the table that is lent, where it isn't 0. */
+static size_t table_lent;
+
 /* A length of the table with which the axes can be read. */
 static size_t random_table(void)
 {
+    if (table_lent != 0)
+        return table_lent;
     return one_in(4) ? table_used() : one_in(4) ? TABLES : BH_TABLE;
 }
 
@@ -171,18 +180,21 @@ static void model_values(const struct point_answer *p, uint64_t value[VALUES])
     memcpy(value, number, sizeof number);
 }
 
-static void compare_point(uint64_t number, size_t out_length)
+/* The axes are those that the plan has, or the call says that there are. */
+static void compare_point_of(uint64_t axes, uint64_t number, size_t out_length)
 {
     uint64_t out[VALUES], expected[VALUES];
     struct point_answer p = plan_point(&model, number);
     uint32_t answer = out_length < BH_NAMES ? BH_SHORT : (uint32_t)p.answer;
+    if (answer == DONE && number >= points)
+        answer = REFUSED_POINT;
     guard_long(out, VALUES);
     guard_long(expected, VALUES);
     if (answer == DONE)
         model_values(&p, expected);
     calls++;
     uint32_t mine =
-        bh_experiment(table, random_table(), (uint64_t)model.axes, number, out, out_length);
+        bh_experiment(table, random_table(), axes, number, out, out_length);
     experiments_by_answer[answer]++;
     if (mine == answer && same_long(out, expected, VALUES))
         return;
@@ -192,6 +204,11 @@ static void compare_point(uint64_t number, size_t out_length)
     print_long("out, library", out, VALUES);
     print_long("out, model", expected, VALUES);
     stop();
+}
+
+static void compare_point(uint64_t number, size_t out_length)
+{
+    compare_point_of((uint64_t)model.axes, number, out_length);
 }
 
 /* A number below the count. */
@@ -402,14 +419,111 @@ static void compare_refused_batch(void)
     case 9:
         answer = REFUSED_POINT;
         c.first = one_in(2) ? number_past() : points - count + 1;
-        if (one_in(4))
-            c.count = c.out_length = 0;
-        if (c.count == 0 && c.first <= points)
-            c.first = points + 1;
         break;
     }
     guard_run(&c);
     call_lines(&c, answer, 0);
+}
+
+/* A call that asks for no point, wherever it starts: 0, and nothing changes. */
+static void compare_no_points(void)
+{
+    struct lines_call c = good_call(one_in(4) ? random_point() : number_past(), 0);
+    guard_run(&c);
+    runs_of_none++;
+    call_lines(&c, DONE, 0);
+}
+
+/* ---- Tables ---- */
+
+/* The most that a value of a name may be. */
+static uint64_t most_of(uint64_t name)
+{
+    return name < 10 ? 0xFFFFFFFFu : name < 13 ? 0xFFFFu : UINT64_MAX;
+}
+
+/* Where an axis starts in the table. */
+static size_t axis_place(int axis)
+{
+    size_t at = 0;
+    for (int i = 0; i < axis; i++)
+        at += 2 + (size_t)model.axis[i].length;
+    return at;
+}
+
+/* Changes the table of a plan with axes in one place, so that it may be no plan's any more. */
+static void spoil_table(uint64_t *axes)
+{
+    int axis = (int)random_below((uint32_t)model.axes);
+    size_t at = axis_place(axis), value = at + 2 + random_below((uint32_t)model.axis[axis].length);
+    switch (random_below(9)) {
+    case 0:
+    case 1:
+        table[value] = most_of(table[at]) + 1;
+        if (one_in(2) && table[value] != 0)
+            table[value] += random64() >> (1 + random_below(62));
+        tables_too_large += table[value] > most_of(table[at]);
+        break;
+    case 2: table[value] = most_of(table[at]); break;
+    case 3: table[at] = one_in(2) ? BH_NAMES : BH_NAMES + (random64() >> random_below(64)); break;
+    case 4: table[at + 1] = one_in(3) ? 0 : one_in(2) ? 65 : random64(); break;
+    case 5: table_lent = 1 + random_below((uint32_t)table_used()); break;
+    case 6: *axes = one_in(8) ? random64() : random_below(12); break;
+    case 7: table[at] = random_below(BH_NAMES); break;
+    case 8:
+        for (size_t i = 0; i < table_used(); i++)
+            table[i] = random_below(one_in(2) ? 4 : 80);
+        break;
+    }
+}
+
+/* A run over a table: 24 exactly where a point that is asked for isn't below the count. */
+static void compare_table_run(uint64_t axes, uint64_t first, uint64_t count)
+{
+    struct lines_call c = good_call(first, count);
+    char *lines = NULL;
+    size_t length = 0;
+    FILE *to = open_memstream(&lines, &length);
+    bool bad = false;
+    if (to == NULL)
+        return;
+    c.axes = axes;
+    for (uint64_t i = 0; i < count; i++)
+        bad = bad || first + i < first || first + i >= points;
+    guard_run(&c);
+    for (uint64_t i = 0; i < count && !bad; i++)
+        model_point(first + i, to);
+    fclose(to);
+    memcpy(model_out, lines, length);
+    runs_of_none += count == 0;
+    call_lines(&c, bad ? REFUSED_POINT : DONE, length);
+    free(lines);
+}
+
+/* The plan's table changed: the points that the model finds in it, and none where it holds no
+   axes. The plan is as before then. */
+static void compare_table(void)
+{
+    static uint64_t kept_table[TABLES];
+    static struct plan kept;
+    uint64_t kept_points = points, axes = (uint64_t)model.axes;
+    kept = model;
+    memcpy(kept_table, table, sizeof table);
+    table_lent = BH_TABLE;
+    spoil_table(&axes);
+    bool held = plan_take_axes(&model, table, table_lent, axes);
+    points = held ? plan_count(&model) : 0;
+    *(held ? &tables_held : &tables_not_held) += 1;
+    compare_point_of(axes, 0, BH_NAMES);
+    compare_point_of(axes, held ? random_point() : random64(), BH_NAMES);
+    compare_point_of(axes, points, BH_NAMES);
+    compare_table_run(axes, 0, 1 + random_below(3));
+    compare_table_run(axes, held ? random_point() : random_below(4), random_below(4));
+    compare_table_run(axes, number_past(), random_below(2));
+    table_lent = 0;
+    model = kept;
+    points = kept_points;
+    memcpy(table, kept_table, sizeof table);
 }
 
 /* ---- Listings ---- */
@@ -523,6 +637,10 @@ static void compare_plan(void)
         bool many = points > (model.words > 4096 ? 8 : MANY_POINTS);
         compare_points();
         compare_refused_batch();
+        if (one_in(4))
+            compare_no_points();
+        if (model.axes > 0 && model.words <= 4096)
+            compare_table();
         for (int i = 0; many && i < 4; i++)
             compare_some_lines();
         if (many)
@@ -548,6 +666,12 @@ void compare_plans(uint64_t count)
            (unsigned long long)experiments_by_answer[DONE],
            (unsigned long long)experiments_by_answer[BH_SHORT],
            (unsigned long long)experiments_by_answer[REFUSED_POINT]);
+    printf("tables: %llu held, %llu not, of %llu with a value too large for its name; runs of no "
+           "point: %llu\n",
+           (unsigned long long)tables_held, (unsigned long long)tables_not_held,
+           (unsigned long long)tables_too_large, (unsigned long long)runs_of_none);
+    other += (tables_held == 0) + (tables_not_held == 0) + (tables_too_large == 0)
+             + (runs_of_none == 0);
     if (missing > 0 || (other > 0 && count >= ENOUGH)) {
         printf("compare: %d of these never occurred\n", missing + other);
         stop();

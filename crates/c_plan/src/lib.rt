@@ -5,9 +5,8 @@ ghost use mathlib.Core.List.{[], _∷_};
 ghost use Prim.Native.Nat.{_≤_};
 ghost use lib.ListN.{length};
 ghost use lib.Seq.{sets};
-ghost use Rattle.points.specs.Table.{answerFor, outAfter};
 ghost use Rattle.plan.specs.Table.{planOf, tableAfter};
-ghost use Rattle.listing.specs.Listing.{put, putIf, after, heading, refusedLine};
+ghost use Rattle.listing.specs.Listing.{put};
 ghost use Rattle.run.specs.Lines.{linesOf, written, imageAfter, memoryAfter};
 ghost use Rattle.c_arrays.specs.Out.{answered, stored};
 ghost use Rattle.c_plan.specs.Plan.{badRead, planResults, badLines};
@@ -41,14 +40,6 @@ fn hand_out(out: &mut [u64], plan: Plan)
     out[4] = plan.points;
 }
 
-// The fourteen values of a point.
-pub fn experiment(table: &[u64], axes: u64, point: u64, out: &mut [u64]) -> u32
-    ensures { λ r. let t = now (table .entry) in let o = now (out .entry) in
-        ⌜ (r ≡ answerFor axes t point o) × (now (out .exit) ≡ outAfter axes t point o) ⌝ }
-{
-    points::experiment(table, axes, point, out)
-}
-
 // Runs points of a plan from a first one on; out has their lines of the listing, and bytes[0] is how many bytes these are.
 pub fn lines(
     table: &[u64],
@@ -72,26 +63,10 @@ pub fn lines(
     if bytes.len() < 1 {
         return 9;
     }
-    let r = run::lines(table, axes, draw, first, count, image, memory, out);
+    let r = running::lines(table, axes, draw, first, count, image, memory, out);
     if r.answer == 9 {
         return 9;
     }
     bytes[0] = r.length as u64;
     r.answer
-}
-
-// Puts the listing's heading.
-pub fn put_heading(out: &mut [u8], at: usize) -> usize
-    ensures { λ r. let o = now (out .entry) in
-        ⌜ (r ≡ after at heading (length o)) × (now (out .exit) ≡ putIf at heading o) ⌝ }
-{
-    listing::put_heading(out, at)
-}
-
-// Puts the line of a refused plan.
-pub fn put_refused(out: &mut [u8], at: usize, number: u64, line: u64) -> usize
-    ensures { λ r. let o = now (out .entry) in
-        ⌜ (r ≡ after at (refusedLine number line) (length o)) × (now (out .exit) ≡ putIf at (refusedLine number line) o) ⌝ }
-{
-    listing::put_refused(out, at, number, line)
 }

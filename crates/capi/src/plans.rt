@@ -28,7 +28,7 @@ pub extern "C" fn bh_experiment(table: &[u64], axes: u64, point: u64, out: &mut 
     ensures { λ r. let t = now (table .entry) in let o = now (out .entry) in
         ⌜ (r ≡ answerFor axes t point o) × (now (out .exit) ≡ outAfter axes t point o) ⌝ }
 {
-    c_plan::experiment(table, axes, point, out)
+    decoding::experiment(table, axes, point, out)
 }
 
 // Runs points of a plan from a first one on; out has their lines of the listing, and bytes[0] is how many bytes these are.
@@ -61,7 +61,7 @@ pub extern "C" fn bh_put_heading(out: &mut [u8], at: usize) -> usize
     ensures { λ r. let o = now (out .entry) in
         ⌜ (r ≡ after at heading (length o)) × (now (out .exit) ≡ putIf at heading o) ⌝ }
 {
-    c_plan::put_heading(out, at)
+    first_line::put_heading(out, at)
 }
 
 // Puts the line of a refused plan.
@@ -70,5 +70,5 @@ pub extern "C" fn bh_put_refused(out: &mut [u8], at: usize, number: u64, line: u
     ensures { λ r. let o = now (out .entry) in
         ⌜ (r ≡ after at (refusedLine number line) (length o)) × (now (out .exit) ≡ putIf at (refusedLine number line) o) ⌝ }
 {
-    c_plan::put_refused(out, at, number, line)
+    first_line::put_refused(out, at, number, line)
 }

@@ -1,4 +1,4 @@
 pub mod ListingLaws
 pub mod DigitsLaws
 pub mod PlacedLaws
-mod LoopLaws
+pub mod LoopLaws

@@ -13,7 +13,7 @@ use Rattle.lists.proofs.TestLaws.{or-eq-false}
 use Rattle.points.specs.Axes.{Axis, defaults, count}
 use Rattle.points.specs.Points.{indices, assigned, experiment, refusal}
 use Rattle.points.specs.Table.{axesIn, laterIn, holds, pointsIn, refusalIn, answerFor, outAfter, withDefaults}
-use Rattle.points.specs.OneToOne.{unknown}
+use Rattle.points.specs.OneToOne.{unknown, tooLarge}
 use Rattle.points.proofs.StepLaws.{held}
 
 -- what is known of a table that has a point
@@ -53,6 +53,17 @@ unknown-axesIn zero t e = refl
 unknown-axesIn (suc k) t e =
     let p = and-eq-true-iff _ _ .0 e in
     rw (lt-leb 14 (getD t 0 0) (held t (p .0) .named)) (unknown-axesIn k (laterIn t) (p .1))
+
+-- the values of a table that has a point are below the limits of their names
+tooLarge-axesIn : (k : ℕ) (t : List ℕ) → holds k t ≡ true → any tooLarge (axesIn k t) ≡ false
+unfolding any holds axesIn
+tooLarge-axesIn zero t e = refl
+tooLarge-axesIn (suc k) t e =
+    let p = and-eq-true-iff _ _ .0 e in
+    rw (held t (p .0) .small) (tooLarge-axesIn k (laterIn t) (p .1))
+
+pub small-axesIn : (k n : ℕ) (t : List ℕ) → n < pointsIn k t → any tooLarge (axesIn k t) ≡ false
+small-axesIn k n t h = tooLarge-axesIn k t (holding k n t h .held)
 
 module _ (k n : ℕ) (t out : List ℕ) where
   pub answer-short : length out < 14 → (9 ≡ answerFor k t n out) × (out ≡ outAfter k t n out)

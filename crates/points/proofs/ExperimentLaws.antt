@@ -100,6 +100,6 @@ assigned-lt-limit (a ∷ later) (j ∷ is) vs e f =
     assigned-lt-limit later is (set vs (a .name) (getD (a .values) j 0)) (p .1)
     (set-each (λ (k v : ℕ). v < limit k) vs (a .name) _ (value-lt-limit a j (p .0)) f)
 
-pub experiment-lt-limit : (axes : List Axis) (n i : ℕ) → Sound axes → getD (experiment axes n) i 0 < limit i
+pub experiment-lt-limit : (axes : List Axis) (n i : ℕ) → any tooLarge axes ≡ false → getD (experiment axes n) i 0 < limit i
 unfolding experiment
-experiment-lt-limit axes n i s = assigned-lt-limit axes (indices axes n) defaults (s .small) default-lt-limit i
+experiment-lt-limit axes n i s = assigned-lt-limit axes (indices axes n) defaults s default-lt-limit i

@@ -5,3 +5,4 @@ pub mod OneToOne
 pub mod TableLaws
 pub mod StepLaws
 pub mod AnswerLaws
+pub mod LimitLaws

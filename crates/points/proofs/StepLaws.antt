@@ -1,17 +1,20 @@
 -- Laws of `specs/Table.antt` as the code goes through a table: the test of an axis, then the later axes. No contract cites this file.
 -- Assumes nothing.
 use mathlib.Core.Path.{_≡_, refl, sym, ap, _∙_}
-use mathlib.Core.Bool.{Bool, true, false, true≢false, cond, not, _&&_, and-false, and-eq-true-iff}
+use mathlib.Core.Bool.{Bool, true, false, cond, not, _&&_, and-false, and-eq-true-iff}
 use mathlib.Core.List.{List}
 use Prim.Native.Nat.{ℕ, zero, suc, _+_, _-_, _*_, _/_, _%_, _^_, _<_, _≤_}
-use native.Mathlib.Nat.{mul-le-mul, mul-zero, mul-pos, mod-lt, mul-div-right, div-lt-iff-lt-mul, pow-succ', pow-le-pow-right}
+use native.Mathlib.Nat.{mul-le-mul, mul-zero, mul-one, one-mul, mul-assoc, mul-pos, mod-lt, mul-div-right, div-one, div-lt-iff-lt-mul, pow-suc, pow-le-pow-right}
+use native.Mathlib.Numerals.{add-one}
 use native.Mathlib.Omega.{arith}
 use borrow.Author.Tests.{not-true, not-false, ltb-true, leb-true, lt-leb}
 use lib.Dec.{ltb, leb, leb·suc-suc}
 use lib.ListN.{length, getD, set, take, drop, length-drop}
-use lib.Seq.{take-all, length-take-le, getD-take, getD-drop}
-use Rattle.points.specs.Axes.{count}
+use lib.Seq.{take-all, length-take-le, getD-take, getD-drop, drop-drop}
+use Rattle.lists.specs.Search.{any}
+use Rattle.points.specs.Axes.{count, limit}
 use Rattle.points.specs.Points.{indices, assigned}
+use Rattle.points.specs.OneToOne.{tooLarge}
 use Rattle.points.specs.Table.{axisIn, axesIn, laterIn, holdsAxis, holds, countIn}
 
 -- A part of a slice from i on
@@ -26,11 +29,13 @@ pub record Held (t : List ℕ) : Type 0 where
   pub some : 1 ≤ getD t 1 0
   pub few : getD t 1 0 ≤ 64
   pub whole : 2 + getD t 1 0 ≤ length t
+  pub small : tooLarge (axisIn t) ≡ false
 
 pub held : (t : List ℕ) → holdsAxis t ≡ true → Held t
 unfolding holdsAxis
 held t e =
-    let p = and-eq-true-iff _ _ .0 e in
+    let s = and-eq-true-iff _ _ .0 e in
+    let p = and-eq-true-iff _ _ .0 (s .0) in
     let q = and-eq-true-iff _ _ .0 (p .0) in
     let r = and-eq-true-iff _ _ .0 (q .0) in
     record {
@@ -38,6 +43,7 @@ held t e =
       some = leb-true _ _ (r .1);
       few = leb-true _ _ (q .1);
       whole = leb-true _ _ (p .1);
+      small = not-true (tooLarge (axisIn t)) (s .1);
     }
 
 -- from a call's answer and the branch after it
@@ -49,9 +55,9 @@ not-held-of {b} t e n = sym e ∙ not-true b n
 
 pub holdsAxis-short : (t : List ℕ) → length t < 2 → false ≡ holdsAxis t
 unfolding holdsAxis
-holdsAxis-short t h = rw (lt-leb (2 + getD t 1 0) (length t) (omega arith)) (sym (and-false (ltb (getD t 0 0) 14 && leb 1 (getD t 1 0) && leb (getD t 1 0) 64)))
+holdsAxis-short t h = rw (lt-leb (2 + getD t 1 0) (length t) (omega arith), and-false (ltb (getD t 0 0) 14 && leb 1 (getD t 1 0) && leb (getD t 1 0) 64))
 
-pub leb-sub : (v l : ℕ) → 2 ≤ l → leb v (l - 2) ≡ leb (2 + v) l
+leb-sub : (v l : ℕ) → 2 ≤ l → leb v (l - 2) ≡ leb (2 + v) l
 leb-sub v zero h = absurd (omega arith)
 leb-sub v (suc zero) h = absurd (omega arith)
 leb-sub v (suc (suc l)) h = rw (less l, more v, leb·suc-suc, leb·suc-suc)
@@ -61,6 +67,31 @@ leb-sub v (suc (suc l)) h = rw (less l, more v, leb·suc-suc, leb·suc-suc)
 
     more : (n : ℕ) → 2 + n ≡ suc (suc n)
     more n = omega arith
+
+-- the test of all but the values, with no sum
+abbrev shape : List ℕ → Bool
+shape t = ltb (getD t 0 0) 14 && leb 1 (getD t 1 0) && leb (getD t 1 0) 64 && leb (getD t 1 0) (length t - 2)
+
+module _ (t : List ℕ) (l : 2 ≤ length t) where
+  holdsAxis-shape : holdsAxis t ≡ (shape t && not (tooLarge (axisIn t)))
+  unfolding holdsAxis
+  holdsAxis-shape = rw (leb-sub (getD t 1 0) (length t) l)
+
+  pub not-shaped : not (shape t) ≡ true → false ≡ holdsAxis t
+  not-shaped e = sym (holdsAxis-shape ∙ rw (not-true (shape t) e))
+
+  pub shaped-fits : not (shape t) ≡ false → (getD t 1 0 ≤ 64) × (2 + getD t 1 0 ≤ length t)
+  shaped-fits e =
+      let few : Bool = ltb (getD t 0 0) 14 && leb 1 (getD t 1 0) && leb (getD t 1 0) 64 in
+      let p = and-eq-true-iff few (leb (getD t 1 0) (length t - 2)) .0 (not-false (shape t) e) in (
+        leb-true _ _ (and-eq-true-iff (ltb (getD t 0 0) 14 && leb 1 (getD t 1 0)) (leb (getD t 1 0) 64) .0 (p .0) .1),
+        leb-true _ _ (sym (leb-sub (getD t 1 0) (length t) l) ∙ p .1),
+      )
+
+  pub shaped-small : not (shape t) ≡ false → {b : Bool} → b ≡ any (leb (limit (getD t 0 0))) (take (2 + getD t 1 0 - 2) (drop 2 t)) → not b ≡ holdsAxis t
+  shaped-small e {b} h =
+      let n : 2 + getD t 1 0 - 2 ≡ getD t 1 0 = omega arith in
+      sym (holdsAxis-shape ∙ rw (not-false (shape t) e, h, n))
 
 -- The axes, one after another
 
@@ -89,12 +120,53 @@ module _ (t : List ℕ) where
       go true = rw (length-values t (held t e))
       go false = mul-zero (getD t 1 0)
 
-  pub countIn-le : (k m : ℕ) → (k ≡ 0 → ⊥) → holdsAxis t ≡ true → m ≤ 64 ^ (k - 1) → getD t 1 0 * m ≤ 64 ^ k
-  countIn-le zero m n e h = absurd (n refl)
-  countIn-le (suc k) m n e h = rw (pow-succ' 64 k) (mul-le-mul (held t e .few) (rw (suc-pred k) at h))
-
-pub eight-fit : (k n : ℕ) → k ≤ 8 → n ≤ 64 ^ k → n < 2 ^ 64
+eight-fit : (k n : ℕ) → k ≤ 8 → n ≤ 64 ^ k → n < 2 ^ 64
 eight-fit k n h e = omega (arith, pow-le-pow-right {n = 64} (omega arith) {i = k} {j = 8} h)
+
+-- The loop over the axes: i of k are counted, and the table's rest starts at `at`
+
+pub record Counted (t : List ℕ) (k i n at : ℕ) : Type 0 where
+  pub few : i ≤ k
+  pub inside : at ≤ length t
+  pub full : n ≤ 64 ^ i
+  pub rest : n * countIn (k - i) (drop at t) ≡ countIn k t
+
+module _ (t : List ℕ) (k : ℕ) where
+  pub counted-start : Counted t k 0 1 0
+  counted-start =
+      let z : k - 0 ≡ k = omega arith in
+      record { few = omega arith; inside = omega arith; full = omega arith; rest = rw z (one-mul (countIn k t)) }
+
+  module _ {i n at : ℕ} (c : Counted t k i n at) where
+    -- an axis that isn't there
+    pub counted-stop : i < k → holdsAxis (drop at t) ≡ false → 0 ≡ countIn k t
+    counted-stop h e = sym (mul-zero n) ∙ ap (λ (m : ℕ). n * m) (countIn-not (drop at t) (k - i) (omega arith) e) ∙ c .rest
+
+    pub counted-end : k ≤ i → n ≡ countIn k t
+    counted-end h = sym (mul-one n) ∙ ap (λ (m : ℕ). n * m) (countIn-none (drop at t) (k - i) (omega (arith, c .few))) ∙ c .rest
+
+    module _ (h : i < k) (e : holdsAxis (drop at t) ≡ true) where
+      pub counted-inside : (getD (drop at t) 1 0 ≤ 64) × (at + (2 + getD (drop at t) 1 0) ≤ length t)
+      counted-inside = (held (drop at t) e .few, omega (arith, held (drop at t) e .whole, length-drop at t, c .inside))
+
+      pub counted-full : n * getD (drop at t) 1 0 ≤ 64 ^ (i + 1)
+      counted-full = rw (add-one i, pow-suc 64 i) (mul-le-mul (c .full) (held (drop at t) e .few))
+
+      pub counted-fits : k ≤ 8 → n * getD (drop at t) 1 0 < 2 ^ 64
+      counted-fits l = eight-fit (i + 1) _ (omega arith) counted-full
+
+      pub counted-next : Counted t k (i + 1) (n * getD (drop at t) 1 0) (at + (2 + getD (drop at t) 1 0))
+      counted-next =
+          let v = getD (drop at t) 1 0 in
+          let j : k - (i + 1) ≡ k - i - 1 = omega arith in
+          record {
+            few = omega arith;
+            inside = counted-inside .1;
+            full = counted-full;
+            rest =
+                rw (mul-assoc n v, j, ← drop-drop (2 + v) at t)
+                (ap (λ (m : ℕ). n * m) (countIn-next (drop at t) (k - i) (omega arith) e) ∙ c .rest);
+          }
 
 -- The decoding, one axis after another
 
@@ -154,3 +226,16 @@ pub assigned-next : (k total n : ℕ) (t vs : List ℕ) → (k ≡ 0 → ⊥) �
 unfolding axesIn indices assigned
 assigned-next zero total n t vs z d = absurd (z refl)
 assigned-next (suc k) total n t vs z d = rw (value-at (suc k - 1) total n t d, d .counted, suc-pred k)
+
+-- the last axis: the number is its index
+module _ (k total n : ℕ) (t : List ℕ) (one : k ≡ 1) (d : Decoding (k - 1) total n t) where
+  index-last : n / (total / getD t 1 0) ≡ n
+  unfolding axesIn count
+  index-last = rw (d .counted, one) (div-one n)
+
+  pub last-lt : n < getD t 1 0
+  last-lt = rw index-last at (d .index)
+
+  pub assigned-last : (vs : List ℕ) → set vs (getD t 0 0) (getD t (2 + n) 0) ≡ assigned (axesIn k t) (indices (axesIn k t) n) vs
+  unfolding axesIn indices assigned
+  assigned-last vs = rw one (ap (λ (i : ℕ). set vs (getD t 0 0) (getD t (2 + i) 0)) (sym index-last) ∙ rw one at (assigned-next k total n t vs (omega arith) d))

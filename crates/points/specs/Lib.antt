@@ -1,4 +1,4 @@
 pub mod Axes
 pub mod Points
-pub mod Table
 pub mod OneToOne
+pub mod Table

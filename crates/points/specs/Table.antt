@@ -1,12 +1,13 @@
 -- Axes as a table of numbers, which a plan's reader fills and the points are read from: of each axis its name, its length and its values.
 -- The scope knows nothing of it. Assumes nothing.
-use mathlib.Core.Bool.{Bool, true, cond, _&&_}
+use mathlib.Core.Bool.{Bool, true, cond, not, _&&_}
 use mathlib.Core.List.{List, [], _∷_, _++_}
 use Prim.Native.Nat.{ℕ, zero, suc, _+_}
 use lib.Dec.{ltb, leb, eqb}
 use lib.ListN.{length, getD, take, drop}
 use Rattle.points.specs.Axes.{Axis, defaults, count}
 use Rattle.points.specs.Points.{experiment, refusal}
+use Rattle.points.specs.OneToOne.{tooLarge}
 
 -- the table of some axes
 unfoldable pub tableOf : List Axis → List ℕ
@@ -26,9 +27,10 @@ unfoldable pub axesIn : ℕ → List ℕ → List Axis
 axesIn zero t = []
 axesIn (suc k) t = axisIn t ∷ axesIn k (laterIn t)
 
--- does a table start with an axis: a name, and 1 to 64 values?
+-- does a table start with an axis: a name, and 1 to 64 values, none of which is too large for it?
 unfoldable pub holdsAxis : List ℕ → Bool
-holdsAxis t = ltb (getD t 0 0) 14 && leb 1 (getD t 1 0) && leb (getD t 1 0) 64 && leb (2 + getD t 1 0) (length t)
+holdsAxis t =
+    ltb (getD t 0 0) 14 && leb 1 (getD t 1 0) && leb (getD t 1 0) 64 && leb (2 + getD t 1 0) (length t) && not (tooLarge (axisIn t))
 
 -- are the first k axes there?
 unfoldable pub holds : ℕ → List ℕ → Bool

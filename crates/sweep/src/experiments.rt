@@ -4,12 +4,19 @@ use crate::output;
 use crate::output::End;
 use crate::work;
 use plan::Plan;
+use put_lines::NUMBER;
 
-// How many lines there are between writes: 320 bytes each at most.
-const BATCH: u64 = 128;
+// How many lines there are between writes.
+const BATCH: usize = 128;
 
-// The names, and the lines of `count` points from `first` on, or as many as there are.
+// No line is longer: a point's number and its fourteen values.
+const LINE: usize = 15 * NUMBER;
+
+// The names, and the lines of `count` points from `first` on, or as many as there are. With count 0 no point is asked for.
 pub fn list(p: Plan, table: &[u64], first: u64, count: u64) -> End {
+    if count == 0 {
+        return output::names(first);
+    }
     if first >= p.points {
         return output::no_point(first, p.points);
     }
@@ -26,7 +33,7 @@ fn write_all(axes: u64, table: &[u64], first: u64, count: u64) -> End
 {
     let mut done: u64 = 0;
     while done < count {
-        let n = work::least(BATCH, count - done);
+        let n = work::least(BATCH as u64, count - done);
         let end = write_some(axes, table, first + done, n);
         if end.status != 0 {
             return end;
@@ -40,21 +47,27 @@ fn write_all(axes: u64, table: &[u64], first: u64, count: u64) -> End
 fn write_some(axes: u64, table: &[u64], first: u64, count: u64) -> End
     requires { ⌜ first + count < 2 ^ 64 ⌝ }
 {
-    let mut space = [0u8; 40960];
+    let mut space = [0u8; LINE * BATCH];
     let mut at = 0;
     let mut i: u64 = 0;
     while i < count {
-        at = put(axes, table, first + i, &mut space, at);
+        let next = put(axes, table, first + i, &mut space, at);
+        if next == at {
+            return output::not_listed(first + i, 9);
+        }
+        at = next;
         i += 1;
     }
     let n = output::within(at, &space);
     output::lines(&space[..n])
 }
 
-// Puts the line of a point, and gives the index behind it.
+// Puts the line of a point, and gives the index behind it; the index itself where there is no such point or no room.
 fn put(axes: u64, table: &[u64], point: u64, out: &mut [u8], at: usize) -> usize {
     let mut v = [0u64; 14];
-    points::experiment(table, axes, point, &mut v);
+    if decoding::experiment(table, axes, point, &mut v) != 0 {
+        return at;
+    }
     let line = [
         point,
         v[0],
@@ -72,5 +85,5 @@ fn put(axes: u64, table: &[u64], point: u64, out: &mut [u8], at: usize) -> usize
         v[12],
         v[13],
     ];
-    listing::numbers(out, at, &line)
+    put_lines::numbers(out, at, &line)
 }

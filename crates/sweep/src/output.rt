@@ -4,6 +4,7 @@ ghost use lib.ListN.{length};
 ghost use Rattle.io.specs.Counts.{Counts};
 use libc::STDERR_FILENO;
 use libc::STDOUT_FILENO;
+use run::LINE;
 
 // How the program ends, and how many bytes of an unfinished line were written.
 pub struct End {
@@ -41,6 +42,15 @@ pub fn within(n: usize, buffer: &[u8]) -> usize
     if n < buffer.len() { n } else { buffer.len() }
 }
 
+// Writes the line that was put at the buffer's start, and ends there: at 0 where it did not fit.
+fn line(end: usize, buffer: &[u8]) -> End {
+    if end == 0 {
+        return not_listed(0, 9);
+    }
+    let n = within(end, buffer);
+    lines(&buffer[..n])
+}
+
 // Writes whole lines; a line on standard error where that fails.
 pub fn lines(bytes: &[u8]) -> End {
     let mut at = 0;
@@ -74,14 +84,13 @@ fn unfinished(bytes: &[u8], end: usize) -> u64
 }
 
 // The one line of a refused plan, where the listing's start is asked for.
-pub fn refused(first: u64, answer: u64, line: u64) -> End {
+pub fn refused(first: u64, answer: u64, at: u64) -> End {
     if first != 0 {
         return ended(1);
     }
-    let mut space = [0u8; 80];
-    let end = listing::put_refused(&mut space, 0, answer, line);
-    let n = within(end, &space);
-    let r = lines(&space[..n]);
+    let mut space = [0u8; LINE];
+    let end = first_line::put_refused(&mut space, 0, answer, at);
+    let r = line(end, &space);
     if r.status != 0 {
         return r;
     }
@@ -90,10 +99,9 @@ pub fn refused(first: u64, answer: u64, line: u64) -> End {
 
 // The count of points.
 pub fn points(count: u64) -> End {
-    let mut space = [0u8; 80];
-    let end = listing::number(&mut space, 0, count, 10);
-    let n = within(end, &space);
-    lines(&space[..n])
+    let mut space = [0u8; LINE];
+    let end = put_bytes::number(&mut space, 0, count, 10);
+    line(end, &space)
 }
 
 // The heading, where the listing's start is asked for.
@@ -101,10 +109,9 @@ pub fn heading(first: u64) -> End {
     if first != 0 {
         return done();
     }
-    let mut space = [0u8; 80];
-    let end = listing::put_heading(&mut space, 0);
-    let n = within(end, &space);
-    lines(&space[..n])
+    let mut space = [0u8; LINE];
+    let end = first_line::put_heading(&mut space, 0);
+    line(end, &space)
 }
 
 // The heading of experiments, where their start is asked for.
@@ -124,5 +131,15 @@ pub fn no_point(first: u64, count: u64) -> End {
     io::write_all(STDERR_FILENO, b" isn't below the plan's count, ");
     io::print_decimal(STDERR_FILENO, count);
     io::write_all(STDERR_FILENO, b"\n");
+    error()
+}
+
+// Lines that a call of the proved libraries did not put.
+pub fn not_listed(first: u64, answer: u64) -> End {
+    io::write_all(STDERR_FILENO, b"sweep: refused, ");
+    io::print_decimal(STDERR_FILENO, answer);
+    io::write_all(STDERR_FILENO, b": the lines from point ");
+    io::print_decimal(STDERR_FILENO, first);
+    io::write_all(STDERR_FILENO, b" on\n");
     error()
 }

@@ -9,9 +9,10 @@ use crate::output;
 use crate::output::End;
 use crate::progress;
 use plan::Plan;
+use run::LINE;
 
-// How many points are run between writes: 80 bytes of listing each at most.
-const BATCH: u64 = 128;
+// How many points are run between writes.
+const BATCH: usize = 128;
 
 // Reads the arguments and the plan, and runs it.
 pub fn swept() -> End {
@@ -43,8 +44,11 @@ fn listed(asked: Asked, text: &[u8]) -> End {
     }
 }
 
-// The heading, and the lines of `count` points from `first` on, or as many as there are.
+// The heading, and the lines of `count` points from `first` on, or as many as there are. With count 0 no point is asked for.
 fn list(p: Plan, table: &[u64], first: u64, count: u64) -> End {
+    if count == 0 {
+        return output::heading(first);
+    }
     if first >= p.points {
         return output::no_point(first, p.points);
     }
@@ -79,7 +83,7 @@ fn run_batches(
     let mut shown = progress::start();
     let mut done: u64 = 0;
     while done < count {
-        let n = least(BATCH, count - done);
+        let n = least(BATCH as u64, count - done);
         let end = run_some(
             p,
             table,
@@ -106,8 +110,8 @@ fn run_some(
     image: &mut [u16],
     memory: &mut [u16],
 ) -> End {
-    let mut space = [0u8; 10240];
-    let r = run::lines(
+    let mut space = [0u8; LINE * BATCH];
+    let r = running::lines(
         table,
         p.axes,
         p.draw,
@@ -117,6 +121,9 @@ fn run_some(
         memory,
         &mut space,
     );
+    if r.answer != 0 {
+        return output::not_listed(first, r.answer as u64);
+    }
     let n = output::within(r.length, &space);
     output::lines(&space[..n])
 }

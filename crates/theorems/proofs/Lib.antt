@@ -9,5 +9,7 @@ pub mod Windows
 pub mod Refused
 pub mod Slices
 pub mod Plans
+pub mod WritingLaws
+pub mod Runs
 pub mod Example
 pub mod Theorems

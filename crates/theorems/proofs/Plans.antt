@@ -1,13 +1,14 @@
 -- The proofs of `specs/Plans.antt`. Assumes nothing.
 use mathlib.Core.Path.{_≡_, refl, ap, _∙_}
-use mathlib.Core.Bool.{false}
+use mathlib.Core.Bool.{false, and-false}
 use mathlib.Core.List.{List, _++_}
-use Prim.Native.Nat.{ℕ, _*_, _<_, _≤_}
+use Prim.Native.Nat.{ℕ, _+_, _*_, _<_, _≤_}
 use native.Mathlib.Omega.{arith}
 use borrow.Author.Tests.{le-ltb, ne-eqb, eq-eqb}
+use lib.Dec.{ltb}
 use lib.ListN.{length, drop}
 use Rattle.memory.specs.Bits.{noMemory}
-use Rattle.points.specs.Axes.{Axis}
+use Rattle.points.specs.Axes.{Axis, count}
 use Rattle.points.specs.Table.{axesIn, tableOf}
 use Rattle.points.proofs.TableLaws.{axesIn-tableOf, pointsIn-tableOf}
 use Rattle.points.proofs.ExperimentLaws.{experiment-named, experiment-other}
@@ -50,7 +51,7 @@ pub run-is-listing : RunIsListing
 run-is-listing text t first k size h e l r =
     let a = reading-accepted text e in
     let p = table-is-plan text t h e in
-    written-of _ size _ _ first k _ (shape-of _ _ k size (a .words-le) (a .draw-lt) r) (some-of _ (a .some-words) (a .words-le)) (rw (p .1) (le-ltb _ _ l))
+    written-of _ size _ _ first k _ (shape-of _ _ k size (a .words-le) (a .draw-lt) r) (some-of _ (a .some-words) (a .words-le)) (rw (p .1, le-ltb (count (reading text .axes)) (first + k) l) (and-false (ltb 0 k)))
     ∙ ap (λ (axes : List Axis). pointLines (reading text .words) (reading text .draw) axes first k) (p .0)
 
 pub parts-join : PartsJoin

@@ -8,6 +8,7 @@ use Rattle.theorems.proofs.Windows.{of-windows}
 use Rattle.theorems.proofs.Refused.{of-refusals}
 use Rattle.theorems.proofs.Slices.{of-slices}
 use Rattle.theorems.proofs.Plans.{of-plans}
+use Rattle.theorems.proofs.Runs.{of-runs}
 use Rattle.theorems.proofs.Example.{of-example}
 
 pub theorems : Theorems
@@ -21,5 +22,6 @@ theorems =
       refusals = of-refusals;
       slices = of-slices;
       plans = of-plans;
+      runs = of-runs;
       example = of-example;
     }

@@ -6,5 +6,6 @@ pub mod Windows
 pub mod Refused
 pub mod Slices
 pub mod Plans
+pub mod Runs
 pub mod Example
 pub mod Theorems

@@ -8,6 +8,7 @@ use Rattle.theorems.specs.Windows.{OfWindows}
 use Rattle.theorems.specs.Refused.{OfRefusals}
 use Rattle.theorems.specs.Slices.{OfSlices}
 use Rattle.theorems.specs.Plans.{OfPlans}
+use Rattle.theorems.specs.Runs.{OfRuns}
 use Rattle.theorems.specs.Example.{OfExample}
 
 pub record Theorems : Type 0 where
@@ -19,4 +20,5 @@ pub record Theorems : Type 0 where
   pub refusals : OfRefusals
   pub slices : OfSlices
   pub plans : OfPlans
+  pub runs : OfRuns
   pub example : OfExample

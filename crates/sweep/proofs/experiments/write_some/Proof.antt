@@ -7,7 +7,7 @@ use Rattle.sweep.proofs.experiments.write_some.Statement.{statement}
 use Rattle.sweep.proofs.experiments.write_some.Tie as tie
 
 abbrev Inv-loop : tie.InvT-loop
-Inv-loop axes table first count space₀ at₀ i₀ space at i = (i ≤ count) × (length space ≡ 40960)
+Inv-loop axes table first count space₀ at₀ i₀ space at i = (i ≤ count) × (length space ≡ length space₀)
 
 abbrev μ-loop : tie.MeasureT-loop
 μ-loop axes table first count space₀ at₀ i₀ space at i = count - i
@@ -22,6 +22,9 @@ write-some-spec =
     (λ c. search needs)
     (λ c. search needs)
     (λ c κs. search needs)
+    (λ c. search needs)
+    (λ c κs. search needs)
+    (λ c. search needs)
     (λ c. search needs)
     (λ c. search needs)
     (λ c. search needs)
