@@ -211,8 +211,8 @@ uint32_t bh_changed(const uint16_t *before, size_t words_before, const uint16_t 
 #define BH_PLAN_RESULTS 5
 
 /* Reads a plan: its axes go to the start of the table, the results to out. A refused plan has 0 for
-   all results but the line, and the axes of the lines before that one are in the table. Answers 0,
-   9 (the table has less than 528 elements, or out less than 5), 20, 21, 22 or 23. */
+   all results but the line, and leaves the table as it was. Answers 0, 9 (the table has less than
+   528 elements, or out less than 5), 20, 21, 22 or 23. */
 uint32_t bh_plan_read(const uint8_t *text, size_t length, uint64_t *table, size_t table_length,
                       uint64_t *out, size_t out_length);
 

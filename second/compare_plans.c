@@ -129,7 +129,10 @@ static void compare_read(size_t table_length, size_t out_length)
         guard_long(expected_table, TABLES);
     } else {
         bool accepted = model.answer == DONE;
-        model_table(expected_table);
+        if (accepted)
+            model_table(expected_table);
+        else
+            guard_long(expected_table, TABLES);
         expected[0] = model.line;
         expected[1] = accepted ? model.words : 0;
         expected[2] = accepted ? (uint64_t)model.op : 0;

@@ -1,5 +1,2 @@
-pub mod BlockLaws
-pub mod FieldsLaws
 pub mod LineLaws
-pub mod TestsLaws
 pub mod WordsLaws

@@ -1,5 +1,3 @@
-pub mod Block
-pub mod Fields
 pub mod Line
 pub mod Tests
 pub mod Words

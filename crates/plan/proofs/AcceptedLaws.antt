@@ -11,7 +11,9 @@ use Rattle.text.specs.Text.{linesOf, fieldsOf, same}
 use Rattle.points.specs.Axes.{Axis}
 use Rattle.points.specs.OneToOne.{Sound}
 use Rattle.line.specs.Words.{memoryWord}
-use Rattle.line.specs.Line.{fieldValue, memoryOf, drawOf, axisRefusal}
+use Rattle.tabs.specs.Fields.{fieldValue}
+use Rattle.line.specs.Line.{memoryOf, drawOf}
+use Rattle.axis.specs.Axis.{axisRefusal}
 use Rattle.plan.specs.Reading.{Line, kept, Reading, textLimit, axisLines, drawLine, memoryLine, reading}
 use Rattle.lists.proofs.TestLaws.{cond-both}
 use Rattle.plan.proofs.SoundLaws.{reading-sound}

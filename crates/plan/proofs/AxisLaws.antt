@@ -10,21 +10,18 @@ use lib.ListN.{length}
 use Rattle.lists.specs.Search.{any, anyPair}
 use Rattle.lists.proofs.TestLaws.{or-eq-false, cond-zero}
 use Rattle.points.specs.Axes.{Axis, limit}
-use Rattle.line.specs.Line.{nameOf, valuesOf, badForm, badName, badValues, tooMany, refusal, axisRefusal}
-
--- did a name come on these axes?
-abbrev pub cameOn : List Axis → ℕ → Bool
-cameOn axes name = any (λ (a : Axis). eqb (a .name) name) axes
+use Rattle.line.specs.Line.{nameOf}
+use Rattle.axis.specs.Axis.{valuesOf, badForm, badName, badValues, tooMany, refusal, axisRefusal}
 
 -- the line's name is known and new, and its values are few, all different and below the name's limit
-pub record Good (axes : List Axis) (fields : List (List ℕ)) : Type 0 where
+pub record Good (came : ℕ → Bool) (axes : ℕ) (fields : List (List ℕ)) : Type 0 where
   pub known : nameOf fields < 14
-  pub new : cameOn axes (nameOf fields) ≡ false
+  pub new : came (nameOf fields) ≡ false
   pub below : any (leb (limit (nameOf fields))) (valuesOf fields) ≡ false
   pub once : anyPair eqb (valuesOf fields) ≡ false
   pub some : 1 ≤ length (valuesOf fields)
   pub few : length (valuesOf fields) ≤ 64
-  pub room : length axes < 8
+  pub room : axes < 8
 
 some-values : (fields : List (List ℕ)) → badForm fields ≡ false → 1 ≤ length (valuesOf fields)
 unfolding badForm valuesOf
@@ -33,13 +30,13 @@ some-values (word ∷ []) e = absurd (true≢false e)
 some-values (word ∷ name ∷ []) e = absurd (true≢false e)
 some-values (word ∷ name ∷ v ∷ vs) e = omega arith
 
-pub good : (axes : List Axis) (fields : List (List ℕ)) → axisRefusal axes fields ≡ 0 → Good axes fields
+pub good : (came : ℕ → Bool) (axes : ℕ) (fields : List (List ℕ)) → refusal came axes fields ≡ 0 → Good came axes fields
 unfolding refusal
-good axes fields e =
+good came axes fields e =
     let (form, e21) = cond-zero (badForm fields) (λ z. omega arith) e in
-    let (named, e22) = cond-zero (badName (cameOn axes) (nameOf fields)) (λ z. omega arith) e21 in
+    let (named, e22) = cond-zero (badName came (nameOf fields)) (λ z. omega arith) e21 in
     let (valued, e23) = cond-zero (badValues (nameOf fields) (valuesOf fields)) (λ z. omega arith) e22 in
-    let (many, e24) = cond-zero (tooMany (length axes) (valuesOf fields)) (λ z. omega arith) e23 in
+    let (many, e24) = cond-zero (tooMany axes (valuesOf fields)) (λ z. omega arith) e23 in
     let (unknown, new) = or-eq-false _ _ named in
     let (below, once) = or-eq-false _ _ valued in
     let (axes8, values64) = or-eq-false _ _ many in
@@ -52,3 +49,14 @@ good axes fields e =
       few = ltb-false _ _ values64;
       room = leb-false _ _ axes8;
     }
+
+-- after these axes
+
+abbrev pub cameOn : List Axis → ℕ → Bool
+cameOn axes name = any (λ (a : Axis). eqb (a .name) name) axes
+
+abbrev pub GoodOn : List Axis → List (List ℕ) → Type 0
+GoodOn axes fields = Good (cameOn axes) (length axes) fields
+
+pub good-on : (axes : List Axis) (fields : List (List ℕ)) → axisRefusal axes fields ≡ 0 → GoodOn axes fields
+good-on axes fields = good (cameOn axes) (length axes) fields

@@ -2,11 +2,10 @@ pub mod ReadingLaws
 pub mod CursorLaws
 pub mod AxisLaws
 pub mod TableLaws
-pub mod HeldLaws
 pub mod SoundLaws
+pub mod StateLaws
+pub mod TurnLaws
+pub mod StoreLaws
 pub mod AcceptedLaws
 pub mod PlanLaws
-pub mod HandedLaws
-pub mod HeadRead
-pub mod AxesRead
 pub mod ReaderLaws

@@ -1,16 +1,17 @@
 -- A plan that is accepted: its table has room, its reading is accepted, and its axes can be read from the table. Assumes nothing.
-use mathlib.Core.Path.{_≡_}
+use mathlib.Core.Path.{_≡_, sym, ap, _∙_}
 use mathlib.Core.List.{List}
-use Prim.Native.Nat.{ℕ, _≤_}
+use Prim.Native.Nat.{ℕ, _<_, _≤_}
 use native.Mathlib.Omega.{arith}
-use borrow.Author.Tests.{eqb-true, eq-eqb, ltb-false}
+use borrow.Author.Tests.{eqb-true, eq-eqb, ne-eqb, ltb-false, lt-ltb, le-ltb}
 use lib.Dec.{eqb, ltb}
 use lib.ListN.{length}
 use Rattle.points.specs.Axes.{count}
 use Rattle.points.specs.Table.{axesIn}
 use Rattle.plan.specs.declared.Plan.{Plan}
-use Rattle.plan.specs.Reading.{Reading, reading}
-use Rattle.plan.specs.Table.{room, acceptedPlan, summary, planOf, stored, tableAfter}
+use Rattle.plan.specs.Reading.{Reading, textLimit, reading}
+use Rattle.plan.specs.Table.{room, refusedPlan, acceptedPlan, summary, planOf, stored, tableAfter}
+use Rattle.plan.specs.Cursor.{readingOf}
 use Rattle.lists.proofs.TestLaws.{cond-both}
 use Rattle.plan.proofs.TableLaws.{axesIn-stored}
 
@@ -24,16 +25,68 @@ pub record PlanRead (text t : List ℕ) : Type 0 where
 summary-accepted : (r : Reading) → summary r .answer ≡ 0 → r .answer ≡ 0
 summary-accepted r = cond-both (λ (p : Plan). p .answer ≡ 0 → r .answer ≡ 0) (eqb (r .answer) 0) _ _ (λ q e. eqb-true _ _ q) (λ q e. e)
 
+-- the table, which a refused call leaves as it was
+
+module _ (text t : List ℕ) where
+  pub tableAfter-accepted : planOf text (length t) .answer ≡ 0 → tableAfter text t ≡ stored (reading text .axes) t
+  unfolding tableAfter
+  tableAfter-accepted e = rw (eq-eqb _ _ e)
+
+  pub tableAfter-refused : (planOf text (length t) .answer ≡ 0 → ⊥) → tableAfter text t ≡ t
+  unfolding tableAfter
+  tableAfter-refused n = rw (ne-eqb _ _ n)
+
+  -- the plan, where the table has room
+  pub planOf-room : room ≤ length t → planOf text (length t) ≡ summary (reading text)
+  unfolding planOf
+  planOf-room h = rw (le-ltb _ _ h)
+
+  accepted-parts : planOf text (length t) .answer ≡ 0 → (room ≤ length t) × (reading text .answer ≡ 0)
+  unfolding planOf
+  accepted-parts =
+      cond-both (λ (p : Plan). p .answer ≡ 0 → (room ≤ length t) × (reading text .answer ≡ 0)) (ltb (length t) room) _ _
+      (λ q e. absurd (omega arith)) (λ q e. (ltb-false _ _ q, summary-accepted (reading text) e))
+
+-- what `read` hands back
+
+abbrev pub Answered : List ℕ → List ℕ → Plan → List ℕ → Type 0
+Answered text t plan table = (plan ≡ planOf text (length t)) × (table ≡ tableAfter text t)
+
+module _ (text t : List ℕ) {plan : Plan} where
+  answered-refused : plan ≡ planOf text (length t) → (plan .answer ≡ 0 → ⊥) → Answered text t plan t
+  answered-refused p n = (p, sym (tableAfter-refused text t (rw p at n)))
+
+  pub answered-short : length t < room → plan ≡ refusedPlan 9 0 → Answered text t plan t
+  unfolding planOf
+  answered-short h p = answered-refused (p ∙ rw (lt-ltb _ _ h)) (rw p (λ z. omega arith))
+
+  module _ (h : room ≤ length t) where
+    pub answered-long : textLimit < length text → plan ≡ refusedPlan 20 1 → Answered text t plan t
+    unfolding reading
+    answered-long l p = answered-refused (p ∙ sym (planOf-room text t h ∙ rw (lt-ltb _ _ l))) (rw p (λ z. omega arith))
+
+    module _ (l : length text ≤ textLimit) (p : plan ≡ summary (readingOf text)) where
+      reading-is : reading text ≡ readingOf text
+      unfolding reading
+      reading-is = rw (le-ltb _ _ l)
+
+      is : plan ≡ planOf text (length t)
+      is = p ∙ ap summary (sym reading-is) ∙ sym (planOf-room text t h)
+
+      pub answered-bad : (plan .answer ≡ 0 → ⊥) → Answered text t plan t
+      answered-bad n = answered-refused is n
+
+      pub answered-good : {table : List ℕ} → plan .answer ≡ 0 → table ≡ stored (readingOf text .axes) t → Answered text t plan table
+      answered-good z s = (is, s ∙ ap (λ (r : Reading). stored (r .axes) t) (sym reading-is) ∙ sym (tableAfter-accepted text t (rw is at z)))
+
 pub plan-read : (text t : List ℕ) → planOf text (length t) .answer ≡ 0 → PlanRead text t
-unfolding planOf tableAfter
-plan-read text t =
-    cond-both (λ (p : Plan). p .answer ≡ 0 → PlanRead text t) (ltb (length t) room) _ _ (λ q e. absurd (omega arith))
-    (λ q e.
-    let a = summary-accepted (reading text) e in
+plan-read text t e =
+    let (h, a) = accepted-parts text t e in
+    let table = tableAfter-accepted text t e in
     record {
-      has-room = ltb-false _ _ q;
+      has-room = h;
       reads = a;
-      plan-is = rw (q, eq-eqb _ _ a);
-      table-is = rw q;
-      axes-is = rw q (axesIn-stored (reading text .axes) t);
-    })
+      plan-is = planOf-room text t h ∙ rw (eq-eqb _ _ a);
+      table-is = table;
+      axes-is = rw table (axesIn-stored (reading text .axes) t);
+    }

@@ -9,7 +9,8 @@ use lib.Dec.{eqb}
 use lib.ListN.{length}
 use Rattle.text.specs.Text.{before, parts, fieldsOf}
 use Rattle.points.specs.Axes.{Axis}
-use Rattle.line.specs.Line.{memoryOf, drawOf, axisOf, axisRefusal}
+use Rattle.line.specs.Line.{memoryOf, drawOf}
+use Rattle.axis.specs.Axis.{axisOf, axisRefusal}
 use Rattle.plan.specs.Reading.{Line, skipped, kept, accepted, refusedAt, axisLines, drawLine, memoryLine}
 use Rattle.lists.proofs.TestLaws.{cond-both}
 
@@ -51,11 +52,11 @@ module _ (n : ℕ) (l : List ℕ) where
 -- A memory line, a draw line, an axis line
 
 module _ (l : Line) where
-  pub memory-last : memoryLine (l ∷ []) ≡ refusedAt 20 (l .number) []
+  pub memory-last : memoryLine (l ∷ []) ≡ refusedAt 20 (l .number)
   unfolding memoryLine
   memory-last = refl
 
-  pub memory-bad : (ls : List Line) → memoryOf (fieldsOf (l .bytes)) ≡ 0 → memoryLine (l ∷ ls) ≡ refusedAt 20 (l .number) []
+  pub memory-bad : (ls : List Line) → memoryOf (fieldsOf (l .bytes)) ≡ 0 → memoryLine (l ∷ ls) ≡ refusedAt 20 (l .number)
   unfolding memoryLine
   memory-bad [] e = refl
   memory-bad (m ∷ ls) e = rw (eq-eqb _ _ e)
@@ -66,11 +67,11 @@ module _ (l : Line) where
   memory-next (m ∷ ls) h n = rw (ne-eqb _ _ n)
 
 module _ (words : ℕ) (l : Line) where
-  pub draw-last : drawLine words (l ∷ []) ≡ refusedAt 20 (l .number) []
+  pub draw-last : drawLine words (l ∷ []) ≡ refusedAt 20 (l .number)
   unfolding drawLine
   draw-last = refl
 
-  pub draw-bad : (ls : List Line) → 8 ≤ drawOf (fieldsOf (l .bytes)) → drawLine words (l ∷ ls) ≡ refusedAt 20 (l .number) []
+  pub draw-bad : (ls : List Line) → 8 ≤ drawOf (fieldsOf (l .bytes)) → drawLine words (l ∷ ls) ≡ refusedAt 20 (l .number)
   unfolding drawLine
   draw-bad [] h = refl
   draw-bad (m ∷ ls) h = rw (le-ltb _ _ h)
@@ -85,12 +86,12 @@ module _ (words draw : ℕ) (axes : List Axis) (l : Line) where
   unfolding axisLines
   axes-end e = rw (eq-eqb _ _ e)
 
-  pub axes-last : (length (l .bytes) ≡ 0 → ⊥) → axisLines words draw axes (l ∷ []) ≡ refusedAt 20 (l .number) axes
+  pub axes-last : (length (l .bytes) ≡ 0 → ⊥) → axisLines words draw axes (l ∷ []) ≡ refusedAt 20 (l .number)
   unfolding axisLines
   axes-last n = rw (ne-eqb _ _ n)
 
   pub axes-bad : (ls : List Line) → 0 < length ls → (axisRefusal axes (fieldsOf (l .bytes)) ≡ 0 → ⊥)
-      → axisLines words draw axes (l ∷ ls) ≡ refusedAt (axisRefusal axes (fieldsOf (l .bytes))) (l .number) axes
+      → axisLines words draw axes (l ∷ ls) ≡ refusedAt (axisRefusal axes (fieldsOf (l .bytes))) (l .number)
   unfolding axisLines
   axes-bad [] h n = absurd (omega arith)
   axes-bad (m ∷ ls) h n = rw (ne-eqb _ _ n)

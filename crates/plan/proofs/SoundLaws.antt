@@ -1,4 +1,4 @@
--- The axes that are read are sound, of a refused plan too. No contract cites this file. Assumes nothing.
+-- The axes that are read are sound; a refused plan has none. No contract cites this file. Assumes nothing.
 use mathlib.Core.Path.{_≡_, refl, _∙_}
 use mathlib.Core.Bool.{false}
 use mathlib.Core.List.{List, [], _∷_, _++_}
@@ -13,15 +13,16 @@ use Rattle.lists.proofs.SearchLaws.{any-snoc, any-none, anyPair-snoc}
 use Rattle.text.specs.Text.{linesOf, fieldsOf}
 use Rattle.points.specs.Axes.{Axis}
 use Rattle.points.specs.OneToOne.{unknown, sameName, badLength, tooLarge, repeats, Sound}
-use Rattle.line.specs.Line.{memoryOf, drawOf, nameOf, valuesOf, axisOf, axisRefusal}
+use Rattle.line.specs.Line.{memoryOf, drawOf, nameOf}
+use Rattle.axis.specs.Axis.{valuesOf, axisOf, axisRefusal}
 use Rattle.plan.specs.Reading.{Line, kept, Reading, textLimit, axisLines, drawLine, memoryLine, reading}
-use Rattle.plan.proofs.AxisLaws.{Good, good}
+use Rattle.plan.proofs.AxisLaws.{GoodOn, good-on}
 
 pub sound-none : Sound []
 unfolding any anyPair
 sound-none = record { few = omega arith; known = refl; distinct = refl; lengths = refl; small = refl; unrepeated = refl }
 
-module _ {axes : List Axis} {fields : List (List ℕ)} (s : Sound axes) (g : Good axes fields) where
+module _ {axes : List Axis} {fields : List (List ℕ)} (s : Sound axes) (g : GoodOn axes fields) where
   new-name : any (sameName (axisOf fields)) axes ≡ false
   new-name = any-none (λ (a : Axis). eqb (a .name) (nameOf fields)) (sameName (axisOf fields)) axes (λ a e. eqb-comm (nameOf fields) (a .name) ∙ e) (g .new)
 
@@ -45,10 +46,10 @@ SoundReading r = Sound (r .axes)
 pub axisLines-sound : (words draw : ℕ) (axes : List Axis) (ls : List Line) → Sound axes → Sound (axisLines words draw axes ls .axes)
 unfolding axisLines
 axisLines-sound words draw axes [] s = s
-axisLines-sound words draw axes (l ∷ []) s = cond-both SoundReading (eqb (length (l .bytes)) 0) _ _ (λ e. s) (λ e. s)
+axisLines-sound words draw axes (l ∷ []) s = cond-both SoundReading (eqb (length (l .bytes)) 0) _ _ (λ e. s) (λ e. sound-none)
 axisLines-sound words draw axes (l ∷ m ∷ ls) s =
     cond-both SoundReading (eqb (axisRefusal axes (fieldsOf (l .bytes))) 0) _ _
-    (λ e. axisLines-sound words draw _ (m ∷ ls) (sound-next s (good axes _ (eqb-true _ _ e)))) (λ e. s)
+    (λ e. axisLines-sound words draw _ (m ∷ ls) (sound-next s (good-on axes _ (eqb-true _ _ e)))) (λ e. sound-none)
 
 drawLine-sound : (words : ℕ) (ls : List Line) → Sound (drawLine words ls .axes)
 unfolding drawLine
@@ -57,7 +58,7 @@ drawLine-sound words (l ∷ []) = sound-none
 drawLine-sound words (l ∷ m ∷ ls) =
     cond-both SoundReading (ltb (drawOf (fieldsOf (l .bytes))) 8) _ _ (λ e. axisLines-sound words _ [] (m ∷ ls) sound-none) (λ e. sound-none)
 
-memoryLine-sound : (ls : List Line) → Sound (memoryLine ls .axes)
+pub memoryLine-sound : (ls : List Line) → Sound (memoryLine ls .axes)
 unfolding memoryLine
 memoryLine-sound [] = sound-none
 memoryLine-sound (l ∷ []) = sound-none

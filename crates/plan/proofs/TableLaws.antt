@@ -1,25 +1,33 @@
 -- Laws of `specs/Table.antt`: axes stored one after the other, and read back. No contract cites this file. Assumes nothing.
 use mathlib.Core.Path.{_≡_, refl, ap, _∙_}
 use mathlib.Core.List.{List, [], _∷_, _++_, append-nil}
-use Prim.Native.Nat.{ℕ, suc, _+_, _≤_}
+use Prim.Native.Nat.{ℕ, suc, _+_, _<_, _≤_}
 use native.Mathlib.Numerals.{add-one}
 use native.Mathlib.Omega.{arith}
 use lib.ListN.{length, set, drop, length-append, length-drop}
-use lib.Seq.{sets, sets-eq, take-append-seam, drop-append-add, drop-drop}
+use lib.Seq.{set-comm, sets, sets-eq, take-append-seam, drop-append-add, drop-drop}
 use Rattle.points.specs.Axes.{Axis}
 use Rattle.points.specs.Table.{tableOf, axesIn}
 use Rattle.points.proofs.TableLaws.{axesIn-tableOf, tableOf-append}
-use Rattle.line.specs.Line.{storedAt}
+use Rattle.axis.specs.Axis.{storedAt}
 use Rattle.plan.specs.Table.{stored}
 
 -- Numbers stored from an index on
 
+-- one before them, stored later
+storedAt-before : (vs t : List ℕ) (at i b : ℕ) → i < at → set (storedAt at vs t) i b ≡ storedAt at vs (set t i b)
+unfolding storedAt
+storedAt-before [] t at i b h = refl
+storedAt-before (v ∷ vs) t at i b h =
+    storedAt-before vs (set t at v) (suc at) i b (omega arith) ∙ ap (storedAt (suc at) vs) (set-comm t at i v b (λ e. omega (arith, e)))
+
 module _ (t : List ℕ) (at : ℕ) where
-  pub storedAt-two : (a b : ℕ) (vs : List ℕ) → storedAt (at + 2) vs (set (set t at a) (at + 1) b) ≡ storedAt at (a ∷ b ∷ vs) t
+  -- the first, those behind the second, and the second between them
+  pub storedAt-between : (a b : ℕ) (vs : List ℕ) → set (storedAt (at + 2) vs (set t at a)) (at + 1) b ≡ storedAt at (a ∷ b ∷ vs) t
   unfolding storedAt
-  storedAt-two a b vs =
+  storedAt-between a b vs =
       let two : at + 2 ≡ suc (suc at) = omega arith in
-      rw (add-one at, two)
+      storedAt-before vs (set t at a) (at + 2) (at + 1) b (omega arith) ∙ rw (add-one at, two)
 
 storedAt-sets : (vs t : List ℕ) (at : ℕ) → storedAt at vs t ≡ sets t at vs
 unfolding storedAt
@@ -32,7 +40,11 @@ storedAt-append xs ys zs h =
     ∙ sets-eq ys (xs ++ zs) (length xs) (omega (arith, length-append xs zs))
     ∙ rw (take-append-seam xs zs, drop-append-add xs zs)
 
--- An axis more
+-- No axis, and an axis more
+
+pub stored-none : (t : List ℕ) → t ≡ stored [] t
+unfolding tableOf
+stored-none t = refl
 
 module _ (axes : List Axis) (a : Axis) where
   abbrev pub withAxis : List Axis

@@ -7,7 +7,7 @@ use lib.Dec.{ltb}
 use lib.ListN.{length, drop}
 use Rattle.text.specs.Text.{upTo, linesOf}
 use Rattle.plan.specs.declared.Cursor.{Cursor}
-use Rattle.plan.specs.Reading.{Line, skipped, kept}
+use Rattle.plan.specs.Reading.{Line, skipped, kept, Reading, memoryLine}
 
 -- the line at a place, without its byte 10
 abbrev pub lineAt : List ℕ → ℕ → List ℕ
@@ -16,6 +16,10 @@ lineAt text at = upTo 10 (drop at text)
 -- the lines from a place on, numbered from here
 abbrev pub linesFrom : List ℕ → ℕ → ℕ → List Line
 linesFrom text at number = kept number (linesOf (drop at text))
+
+-- the reading of all the lines
+abbrev pub readingOf : List ℕ → Reading
+readingOf text = memoryLine (linesFrom text 0 1)
 
 -- is the line at a place, which ends at `end`, one to skip? What follows the last byte 10 is not.
 abbrev pub skippedAt : List ℕ → ℕ → ℕ → Bool

@@ -1,4 +1,4 @@
 pub mod Reading
 pub mod Table
 pub mod Cursor
-pub mod Held
+pub mod State

@@ -6,7 +6,8 @@ use lib.Dec.{eqb, ltb}
 use lib.ListN.{length}
 use Rattle.text.specs.Text.{linesOf, fieldsOf}
 use Rattle.points.specs.Axes.{Axis}
-use Rattle.line.specs.Line.{memoryOf, drawOf, axisOf, axisRefusal}
+use Rattle.line.specs.Line.{memoryOf, drawOf}
+use Rattle.axis.specs.Axis.{axisOf, axisRefusal}
 
 -- a line and its number; lines count from 1, skipped ones too
 pub record Line : Type 0 where
@@ -24,7 +25,7 @@ kept n [] = []
 kept n (rest ∷ []) = record { number = n; bytes = rest } ∷ []
 kept n (l ∷ m ∷ ls) = cond (skipped l) (kept (suc n) (m ∷ ls)) (record { number = n; bytes = l } ∷ kept (suc n) (m ∷ ls))
 
--- what is read: 0, or the refusal and its line; the memory's words; the drawing's number; the axes, of a refused plan those before the bad line
+-- what is read: 0, or the refusal and its line; the memory's words; the drawing's number; the axes. A refused plan has none of these.
 pub record Reading : Type 0 where
   pub answer : ℕ
   pub line : ℕ
@@ -35,34 +36,34 @@ pub record Reading : Type 0 where
 abbrev pub accepted : ℕ → ℕ → List Axis → Reading
 accepted words draw axes = record { answer = 0; line = 0; words = words; draw = draw; axes = axes }
 
-abbrev pub refusedAt : ℕ → ℕ → List Axis → Reading
-refusedAt number line axes = record { answer = number; line = line; words = 0; draw = 0; axes = axes }
+abbrev pub refusedAt : ℕ → ℕ → Reading
+refusedAt number line = record { answer = number; line = line; words = 0; draw = 0; axes = [] }
 
 -- then axis lines, to the end; what follows the last byte 10 is a line that is not ended, where it is anything
 unfoldable pub axisLines : ℕ → ℕ → List Axis → List Line → Reading
 axisLines words draw axes [] = accepted words draw axes
-axisLines words draw axes (rest ∷ []) = cond (eqb (length (rest .bytes)) 0) (accepted words draw axes) (refusedAt 20 (rest .number) axes)
+axisLines words draw axes (rest ∷ []) = cond (eqb (length (rest .bytes)) 0) (accepted words draw axes) (refusedAt 20 (rest .number))
 axisLines words draw axes (l ∷ m ∷ ls) =
     cond (eqb (axisRefusal axes (fieldsOf (l .bytes))) 0)
     (axisLines words draw (axes ++ (axisOf (fieldsOf (l .bytes)) ∷ [])) (m ∷ ls))
-    (refusedAt (axisRefusal axes (fieldsOf (l .bytes))) (l .number) axes)
+    (refusedAt (axisRefusal axes (fieldsOf (l .bytes))) (l .number))
 
 -- then the draw line; a missing one is 20 at the line after the last one, and one that is not ended 20 at its own: the same number
 unfoldable pub drawLine : ℕ → List Line → Reading
-drawLine words [] = refusedAt 20 1 []
-drawLine words (rest ∷ []) = refusedAt 20 (rest .number) []
+drawLine words [] = refusedAt 20 1
+drawLine words (rest ∷ []) = refusedAt 20 (rest .number)
 drawLine words (l ∷ m ∷ ls) =
     cond (ltb (drawOf (fieldsOf (l .bytes))) 8)
     (axisLines words (drawOf (fieldsOf (l .bytes))) [] (m ∷ ls))
-    (refusedAt 20 (l .number) [])
+    (refusedAt 20 (l .number))
 
 -- first the memory line
 unfoldable pub memoryLine : List Line → Reading
-memoryLine [] = refusedAt 20 1 []
-memoryLine (rest ∷ []) = refusedAt 20 (rest .number) []
+memoryLine [] = refusedAt 20 1
+memoryLine (rest ∷ []) = refusedAt 20 (rest .number)
 memoryLine (l ∷ m ∷ ls) =
     cond (eqb (memoryOf (fieldsOf (l .bytes))) 0)
-    (refusedAt 20 (l .number) [])
+    (refusedAt 20 (l .number))
     (drawLine (memoryOf (fieldsOf (l .bytes))) (m ∷ ls))
 
 -- a text is at most 65,536 bytes, else 20 on line 1
@@ -70,4 +71,4 @@ abbrev pub textLimit : ℕ
 textLimit = 65536
 
 unfoldable pub reading : List ℕ → Reading
-reading text = cond (ltb textLimit (length text)) (refusedAt 20 1 []) (memoryLine (kept 1 (linesOf text)))
+reading text = cond (ltb textLimit (length text)) (refusedAt 20 1) (memoryLine (kept 1 (linesOf text)))

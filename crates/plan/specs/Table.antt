@@ -1,5 +1,4 @@
 -- What `read` hands back, and the lent table after it. Assumes nothing.
-use mathlib.Core.Path.{_≡_}
 use mathlib.Core.Bool.{cond}
 use mathlib.Core.List.{List, _++_}
 use Prim.Native.Nat.{ℕ}
@@ -35,10 +34,6 @@ planOf text size = cond (ltb size room) (refusedPlan 9 0) (summary (reading text
 abbrev pub stored : List Axis → List ℕ → List ℕ
 stored axes t = tableOf axes ++ drop (length (tableOf axes)) t
 
+-- a refused call leaves the table as lent
 unfoldable pub tableAfter : List ℕ → List ℕ → List ℕ
-tableAfter text t = cond (ltb (length t) room) t (stored (reading text .axes) t)
-
--- what the functions below `read` hand back of a reading: its plan, and the table with its axes
-pub record Handed (r : Reading) (t : List ℕ) (plan : Plan) (table : List ℕ) : Type 0 where
-  pub plan-is : plan ≡ summary r
-  pub table-is : table ≡ stored (r .axes) t
+tableAfter text t = cond (eqb (planOf text (length t) .answer) 0) (stored (reading text .axes) t) t

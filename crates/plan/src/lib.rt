@@ -1,14 +1,12 @@
 // Plans: a text is read into a table of its axes. The first bad line decides.
 ghost use mathlib.Core.Path.{_≡_};
-ghost use mathlib.Core.List.{[]};
-ghost use Prim.Native.Nat.{_+_, _≤_};
+ghost use Prim.Native.Nat.{_+_, _<_, _≤_, _^_};
 ghost use lib.ListN.{length};
 ghost use Rattle.text.specs.Text.{fieldsOf};
-ghost use Rattle.line.specs.Line.{nameOf, valuesOf, storedAt};
-ghost use Rattle.plan.specs.Reading.{memoryLine, drawLine, axisLines};
-ghost use Rattle.plan.specs.Table.{refusedPlan, acceptedPlan, planOf, tableAfter, Handed};
-ghost use Rattle.plan.specs.Cursor.{lineAt, linesFrom, skippedAt, Place, Next};
-ghost use Rattle.plan.specs.Held.{heldName, heldRefusal, heldAfter, HasRoom, entryOf};
+ghost use Rattle.axis.specs.Axis.{storedAt};
+ghost use Rattle.plan.specs.Table.{refusedPlan, acceptedPlan, planOf, stored, tableAfter};
+ghost use Rattle.plan.specs.Cursor.{lineAt, skippedAt, Place, Next, readingOf};
+ghost use Rattle.plan.specs.State.{nothingRead, shut, going, afterMemory, afterDraw, afterAxis, afterEnd, heldAfter, entryOf, StartsAt, Reads, After, Read};
 
 // What reading a plan gives: 0 or the refusal, its line, the memory's words, the drawing's number in the scope's order, and how many
 // axes and points there are. A refused plan has only the answer and the line.
@@ -21,7 +19,8 @@ pub struct Plan {
     pub points: u64,
 }
 
-// The plan of a text. Its axes, or those before its bad line, are stored at the table's start; 9 where that has fewer than 528 elements.
+// The plan of a text. The axes of an accepted one are stored at the table's start; a refused one leaves the table as lent. 9 where that
+// has fewer than 528 elements.
 pub fn read(text: &[u8], table: &mut [u64]) -> Plan
     ensures { λ r. ⌜ (r ≡ planOf (now (text .entry)) (length (now (table .entry)))) × (now (table .exit) ≡ tableAfter (now (text .entry)) (now (table .entry))) ⌝ }
 {
@@ -31,7 +30,14 @@ pub fn read(text: &[u8], table: &mut [u64]) -> Plan
     if 65536 < text.len() {
         return refused(20, 1);
     }
-    read_memory(text, table)
+    let s = read_lines(text);
+    let plan = s.plan;
+    if plan.answer != 0 {
+        return plan;
+    }
+    let starts = s.starts;
+    store_axes(text, table, starts, plan.axes);
+    plan
 }
 
 // A line of the text: where it starts, where it ends, and its number.
@@ -48,11 +54,39 @@ struct Reader<'a> {
     line: u64,
 }
 
-// A reader at a place of a text.
-fn reader_at<'a>(text: &'a [u8], at: usize, line: u64) -> Reader<'a>
-    ensures { λ r. ⌜ (r .text ≡ text .entry) × ((r .at ≡ at) × (r .line ≡ line)) ⌝ }
+// What is held of the lines read so far: is another one wanted, the plan up to here, which names came, and where each axis line starts.
+// Before the memory line the plan has no words, before the draw line 8 for the drawing.
+struct State {
+    wanted: bool,
+    plan: Plan,
+    seen: [bool; 14],
+    starts: [usize; 8],
+}
+
+// The first pass: one reader is carried through its text, and each line that is not skipped is taken in.
+fn read_lines(text: &[u8]) -> State
+    requires { ⌜ length (now text) ≤ 65536 ⌝ }
+    ensures { λ s. ⌜ Read (now (text .entry)) s ⌝ }
 {
-    Reader { text, at, line }
+    let mut r = reader_of(text);
+    let mut s = nothing_read();
+    while s.wanted {
+        let c = next(r);
+        s = taken(r.text, c, s);
+        r = behind(r, c);
+    }
+    s
+}
+
+// A reader at its text's start.
+fn reader_of<'a>(text: &'a [u8]) -> Reader<'a>
+    ensures { λ r. ⌜ (r .text ≡ text .entry) × ((r .at ≡ 0) × (r .line ≡ 1)) ⌝ }
+{
+    Reader {
+        text,
+        at: 0,
+        line: 1,
+    }
 }
 
 // The reader's next line that is not skipped, or what follows the last line.
@@ -63,12 +97,16 @@ fn next<'a>(r: Reader<'a>) -> Cursor
     line_from(r.text, r.at, r.line)
 }
 
-// The same from a place of a text, for callers that hold no reader.
-fn next_line(text: &[u8], from: usize, number: u64) -> Cursor
-    requires { ⌜ Place (now text) from number ⌝ }
-    ensures { λ r. ⌜ Next (now (text .entry)) from number r ⌝ }
+// The reader behind a line.
+fn behind<'a>(r: Reader<'a>, c: Cursor) -> Reader<'a>
+    requires { ⌜ (c .end + 1 < 2 ^ 64) × (c .line + 1 < 2 ^ 64) ⌝ }
+    ensures { λ q. ⌜ (q .text ≡ r .entry .text) × ((q .at ≡ c .end + 1) × (q .line ≡ c .line + 1)) ⌝ }
 {
-    next(reader_at(text, from, number))
+    Reader {
+        text: r.text,
+        at: c.end + 1,
+        line: c.line + 1,
+    }
 }
 
 // The work: the lines from a place on are passed while they are skipped ones.
@@ -101,133 +139,157 @@ fn is_skipped(text: &[u8], at: usize, end: usize) -> bool
     text[at] == 35
 }
 
-// The memory line, and what follows it.
-fn read_memory(text: &[u8], table: &mut [u64]) -> Plan
-    requires { ⌜ 528 ≤ length (now table) ⌝ }
-    ensures { λ r. ⌜ Handed (memoryLine (linesFrom (now (text .entry)) 0 1)) (now (table .entry)) r (now (table .exit)) ⌝ }
+// The second pass, over an accepted plan: the axes whose lines start at these places are stored at the table's start.
+fn store_axes(text: &[u8], table: &mut [u64], starts: [usize; 8], axes: u64)
+    requires { ⌜ (528 ≤ length (now table)) × StartsAt (now text) starts axes ⌝ }
+    ensures { λ _. ⌜ now (table .exit) ≡ stored (readingOf (now (text .entry)) .axes) (now (table .entry)) ⌝ }
 {
-    let c = next_line(text, 0, 1);
-    let at = c.at;
-    if text.len() <= c.end {
-        return refused(20, c.line);
+    let mut used = 0;
+    let mut k: u64 = 0;
+    while k < axes {
+        let line = text::part(text, starts[k as usize], 10);
+        used = store_axis(line, table, used);
+        k += 1;
     }
-    let words = line::memory_of(text::part(text, at, 10));
-    if words == 0 {
-        return refused(20, c.line);
-    }
-    read_draw(text, table, c.end + 1, c.line + 1, words)
 }
 
-// The draw line, and what follows it.
-fn read_draw(text: &[u8], table: &mut [u64], from: usize, number: u64, words: u64) -> Plan
-    requires { ⌜ (528 ≤ length (now table)) × Place (now text) from number ⌝ }
-    ensures { λ r. ⌜ Handed (drawLine words (linesFrom (now (text .entry)) from number)) (now (table .entry)) r (now (table .exit)) ⌝ }
+// Stores an axis from an index on: its name, its length and its values. Hands back the index behind it.
+fn store_axis(line: &[u8], table: &mut [u64], at: usize) -> usize
+    requires { ⌜ at + length (entryOf (fieldsOf (now line))) ≤ length (now table) ⌝ }
+    ensures after { λ r. ⌜ r ≡ at + length (entryOf (fieldsOf (now (line .entry)))) ⌝ }
+    ensures entered { λ r. ⌜ now (table .exit) ≡ storedAt at (entryOf (fieldsOf (now (line .entry)))) (now (table .entry)) ⌝ }
 {
-    let c = next_line(text, from, number);
-    let at = c.at;
-    if text.len() <= c.end {
-        return refused(20, c.line);
-    }
-    let draw = line::draw_of(text::part(text, at, 10));
-    if 8 <= draw {
-        return refused(20, c.line);
-    }
-    read_axes(text, table, c.end + 1, c.line + 1, words, draw)
+    table[at] = line::name_of(line);
+    let count = axis::store_values(line, table, at + 2);
+    table[at + 1] = count;
+    at + 2 + count as usize
 }
 
-// What is held of the axes so far: which names came, how many axes, how much of the table is used, how many points.
-struct Held {
-    seen: [bool; 14],
-    axes: u64,
-    used: usize,
-    points: u64,
-}
-
-// The axis lines, to the text's end.
-fn read_axes(
-    text: &[u8],
-    table: &mut [u64],
-    from: usize,
-    number: u64,
-    words: u64,
-    draw: u64,
-) -> Plan
-    requires { ⌜ (528 ≤ length (now table)) × Place (now text) from number ⌝ }
-    ensures { λ r. ⌜ Handed (axisLines words draw [] (linesFrom (now (text .entry)) from number)) (now (table .entry)) r (now (table .exit)) ⌝ }
+// Before the first line.
+fn nothing_read() -> State
+    ensures { λ r. ⌜ r ≡ nothingRead ⌝ }
 {
-    let mut held = Held {
+    let plan = accepted(0, 8, 0, 1);
+    State {
+        wanted: true,
+        plan,
         seen: [false; 14],
-        axes: 0,
-        used: 0,
-        points: 1,
-    };
-    let mut c = next_line(text, from, number);
-    while c.end < text.len() {
-        let at = c.at;
-        let end = c.end;
-        let line = &text[at..end];
-        let name = line::name_of(line);
-        let refusal = refusal_of(line, name, held);
-        if refusal != 0 {
-            return refused(refusal, c.line);
-        }
-        held = store_axis(line, name, table, held);
-        c = next_line(text, c.end + 1, c.line + 1);
+        starts: [0; 8],
     }
-    if c.at < text.len() {
-        return refused(20, c.line);
+}
+
+// The next line that is not skipped, or what follows the last line, is taken in.
+fn taken(text: &[u8], c: Cursor, s: State) -> State
+    requires { ⌜ (length (now text) ≤ 65536) × (Next (now text) (c .at) (c .line) c) × Reads (now text) s (c .at) (c .line) ⌝ }
+    ensures { λ r. ⌜ After (now (text .entry)) c r ⌝ }
+{
+    let at = c.at;
+    let end = c.end;
+    let plan = s.plan;
+    let size = text.len();
+    if size <= end {
+        return at_end(s, at < size, c.line);
     }
-    accepted(words, draw, held.axes, held.points)
-}
-
-// The refusal of an axis line of this name, or 0.
-fn refusal_of(line: &[u8], name: u64, held: Held) -> u32
-    requires { ⌜ name ≡ nameOf (fieldsOf (now line)) ⌝ }
-    ensures { λ r. ⌜ r ≡ heldRefusal held (fieldsOf (now (line .entry))) ⌝ }
-{
-    line::axis_refusal(line, is_named(held, name), held.axes)
-}
-
-// Did the name come?
-fn is_named(held: Held, name: u64) -> bool
-    ensures { λ r. ⌜ r ≡ heldName held name ⌝ }
-{
-    let seen = held.seen;
-    if 14 <= name {
-        return false;
+    let line = &text[at..end];
+    if plan.words == 0 {
+        return with_memory(s, line::memory_of(line), c.line);
     }
-    seen[name as usize]
+    if plan.draw == 8 {
+        return with_draw(s, line::draw_of(line), c.line);
+    }
+    with_axis(s, line, c)
 }
 
-// Stores the axis of a good line: its name, its length and its values.
-fn store_axis(line: &[u8], name: u64, table: &mut [u64], held: Held) -> Held
-    requires { ⌜ (528 ≤ length (now table)) × (name ≡ nameOf (fieldsOf (now line))) × HasRoom held name (length (valuesOf (fieldsOf (now line)))) ⌝ }
-    ensures after { λ r. ⌜ r ≡ heldAfter held (nameOf (fieldsOf (now (line .entry)))) (length (valuesOf (fieldsOf (now (line .entry))))) ⌝ }
-    ensures entered { λ r. ⌜ now (table .exit) ≡ storedAt (held .used) (entryOf (fieldsOf (now (line .entry)))) (now (table .entry)) ⌝ }
+// The memory line: 20 where its words are 0.
+fn with_memory(s: State, words: u64, line: u64) -> State
+    ensures { λ r. ⌜ r ≡ afterMemory s words line ⌝ }
 {
-    let count = line::value_count(line);
-    let used = held.used;
-    table[used] = name;
-    table[used + 1] = count;
-    line::store_values(line, table, used + 2);
-    with_axis(held, name, count)
+    if words == 0 {
+        return shut(s, refused(20, line));
+    }
+    going(s, accepted(words, 8, 0, 1))
 }
 
-// With an axis more.
-fn with_axis(held: Held, name: u64, count: u64) -> Held
-    requires { ⌜ HasRoom held name count ⌝ }
-    ensures { λ r. ⌜ r ≡ heldAfter held name count ⌝ }
+// The draw line: 20 where it has none of the eight drawings.
+fn with_draw(s: State, draw: u64, line: u64) -> State
+    ensures { λ r. ⌜ r ≡ afterDraw s draw line ⌝ }
 {
-    let mut seen = held.seen;
+    let plan = s.plan;
+    if 8 <= draw {
+        return shut(s, refused(20, line));
+    }
+    going(s, accepted(plan.words, draw, 0, 1))
+}
+
+// An axis line: its refusal, or an axis more.
+fn with_axis(s: State, line: &[u8], c: Cursor) -> State
+    requires { ⌜ s .plan .points ≤ 64 ^ s .plan .axes ⌝ }
+    ensures { λ r. ⌜ r ≡ afterAxis s (fieldsOf (now (line .entry))) c ⌝ }
+{
+    let plan = s.plan;
+    let seen = s.seen;
+    let a = axis::axis_of(line, seen, plan.axes);
+    if a.refusal != 0 {
+        return shut(s, refused(a.refusal, c.line));
+    }
+    with_values(s, a.name, a.count, c.at)
+}
+
+// With an axis more, of a name and so many values, whose line starts at a place.
+fn with_values(s: State, name: u64, count: u64, at: usize) -> State
+    requires { ⌜ (name < 14) × (count ≤ 64) × (s .plan .axes < 8) × (s .plan .points ≤ 64 ^ s .plan .axes) ⌝ }
+    ensures { λ r. ⌜ r ≡ heldAfter s name count at ⌝ }
+{
+    let mut seen = s.seen;
+    let mut starts = s.starts;
+    let plan = s.plan;
     seen[name as usize] = true;
-    let axes = held.axes + 1;
-    let used = held.used + 2 + count as usize;
-    let points = held.points * count;
-    Held {
+    starts[plan.axes as usize] = at;
+    let plan = accepted(plan.words, plan.draw, plan.axes + 1, plan.points * count);
+    State {
+        wanted: true,
+        plan,
         seen,
-        axes,
-        used,
-        points,
+        starts,
+    }
+}
+
+// Behind the last line: 20 where something is left, or where the memory line or the draw line is missing.
+fn at_end(s: State, left: bool, line: u64) -> State
+    ensures { λ r. ⌜ r ≡ afterEnd s left line ⌝ }
+{
+    let plan = s.plan;
+    if left | (plan.draw == 8) {
+        return shut(s, refused(20, line));
+    }
+    shut(s, plan)
+}
+
+// With this plan, and no line is wanted any more.
+fn shut(s: State, plan: Plan) -> State
+    ensures { λ r. ⌜ r ≡ shut s plan ⌝ }
+{
+    let seen = s.seen;
+    let starts = s.starts;
+    State {
+        wanted: false,
+        plan,
+        seen,
+        starts,
+    }
+}
+
+// With this plan, and another line is wanted.
+fn going(s: State, plan: Plan) -> State
+    ensures { λ r. ⌜ r ≡ going s plan ⌝ }
+{
+    let seen = s.seen;
+    let starts = s.starts;
+    State {
+        wanted: true,
+        plan,
+        seen,
+        starts,
     }
 }
 

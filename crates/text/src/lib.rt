@@ -3,6 +3,7 @@ ghost use mathlib.Core.Path.{_≡_};
 ghost use Prim.Native.Nat.{_+_};
 ghost use lib.ListN.{length, drop};
 ghost use Rattle.text.specs.Text.{upTo, same};
+ghost use Rattle.text.specs.Part.{PartOf};
 ghost use Rattle.text.specs.Number.{pushed, digitsOf, numberOf};
 
 // What a field is as a number.
@@ -27,7 +28,7 @@ pub fn part_end(text: &[u8], from: usize, mark: u8) -> usize
 
 // The part that starts at `from`, as that part of the text: an empty one past the text's end.
 pub fn part(text: &[u8], from: usize, mark: u8) -> &[u8]
-    ensures { λ r. ⌜ now r ≡ upTo mark (drop from (now (text .entry))) ⌝ }
+    ensures { λ r. ⌜ PartOf (text .entry) r from mark ⌝ }
 {
     if text.len() < from {
         return &text[0..0];

@@ -5,7 +5,8 @@ use Rattle.lists.specs.Search.{any, first, anyPair}
 use Rattle.text.specs.Text.{before, parts, same}
 use Rattle.text.specs.Number.{areDigits, decimal, numberOf}
 use Rattle.points.specs.Axes.{limit, count}
-use Rattle.line.specs.Line.{memoryOf, drawOf, nameOf, valuesOf, badForm, refusal}
+use Rattle.line.specs.Line.{memoryOf, drawOf, nameOf}
+use Rattle.axis.specs.Axis.{valuesOf, badForm, refusal}
 use Rattle.plan.specs.Reading.{kept, accepted, axisLines, drawLine, memoryLine, reading}
 use Rattle.listing.specs.Listing.{heading}
 use Rattle.run.specs.Example.{exampleAxes}

@@ -1,22 +1,24 @@
 -- The proofs of `specs/Plans.antt`. Assumes nothing.
 use mathlib.Core.Path.{_≡_, refl, ap, _∙_}
 use mathlib.Core.Bool.{false, and-false}
-use mathlib.Core.List.{List, _++_}
+use mathlib.Core.List.{List}
 use Prim.Native.Nat.{ℕ, _+_, _*_, _<_, _≤_}
 use native.Mathlib.Omega.{arith}
 use borrow.Author.Tests.{le-ltb, ne-eqb, eq-eqb}
 use lib.Dec.{ltb}
-use lib.ListN.{length, drop}
+use lib.ListN.{length}
 use Rattle.memory.specs.Bits.{noMemory}
 use Rattle.points.specs.Axes.{Axis, count}
-use Rattle.points.specs.Table.{axesIn, tableOf}
+use Rattle.points.specs.Table.{axesIn}
 use Rattle.points.proofs.TableLaws.{axesIn-tableOf, pointsIn-tableOf}
 use Rattle.points.proofs.ExperimentLaws.{experiment-named, experiment-other}
 use Rattle.points.proofs.OneToOne.{pointsOneToOne}
 use Rattle.plan.specs.Reading.{reading}
-use Rattle.plan.specs.Table.{room, tableAfter}
+use Rattle.plan.specs.declared.Plan.{Plan}
+use Rattle.plan.specs.Table.{room, stored, tableAfter}
 use Rattle.plan.proofs.SoundLaws.{reading-sound}
 use Rattle.plan.proofs.AcceptedLaws.{reading-accepted}
+use Rattle.plan.proofs.PlanLaws.{planOf-room, tableAfter-accepted}
 use Rattle.run.proofs.LinesLaws.{pointLines-add}
 use Rattle.run.proofs.ValuesLaws.{settings-kept, seeds-told}
 use Rattle.run.specs.Lines.{pointLines, longest, badShape, badPoints, written}
@@ -25,15 +27,14 @@ use Rattle.theorems.specs.Plans.{NumbersAreExperiments, TableIsPlan, Run
 pub numbers-are-experiments : NumbersAreExperiments
 numbers-are-experiments text e = pointsOneToOne (reading text .axes) (reading-sound text)
 
--- the table of a plan that is read
-table-is : (text t : List ℕ) → room ≤ length t → tableAfter text t ≡ tableOf (reading text .axes) ++ drop (length (tableOf (reading text .axes))) t
-unfolding tableAfter
-table-is text t h = rw (le-ltb _ _ h)
+-- the table of a plan that is accepted
+table-is : (text t : List ℕ) → room ≤ length t → reading text .answer ≡ 0 → tableAfter text t ≡ stored (reading text .axes) t
+table-is text t h e = tableAfter-accepted text t (ap (λ (p : Plan). p .answer) (planOf-room text t h) ∙ rw (eq-eqb (reading text .answer) 0 e))
 
 pub table-is-plan : TableIsPlan
 table-is-plan text t h e =
     let axes = reading text .axes in
-    rw (table-is text t h)
+    rw (table-is text t h e)
     (axesIn-tableOf axes _, pointsIn-tableOf axes _ (reading-sound text))
 
 written-of : (words size draw axes first k : ℕ) (t : List ℕ) → badShape words words draw k size ≡ false → noMemory words ≡ false → badPoints axes t first k ≡ false

@@ -42,7 +42,7 @@ returns-2 c =
     let line = now (t .before .before .before .before .args .line) in
     let e : isPair drawWord (fieldsOf line) ≡ true = sym (t .before .is-pair .ensures) ∙ not-false _ (t .if1 .left) in
     let i : c .index-of .result ≡ first (same (now (c .before .second .result))) (fieldsOf (joined drawNames)) = c .index-of .ensures in
-    i ∙ ap₂ (λ (w : List ℕ) (ws : List (List ℕ)). first (same w) ws) (c .before .second .ensures) drawNames-joined ∙ sym (drawOf-isPair (fieldsOf line) ∙ rw e)
+    i ∙ ap₂ (λ (w : List ℕ) (ws : List (List ℕ)). first (same w) ws) (c .before .second .ensures .0) drawNames-joined ∙ sym (drawOf-isPair (fieldsOf line) ∙ rw e)
 
 pub draw-of-spec : {M : Type 1} → statement M
 draw-of-spec =

@@ -1,7 +1,7 @@
 -- `line::is_pair` meets its contract.
 use borrow.Author.Needs.{needs}
 use denote.Ref.{now}
-use Rattle.line.proofs.FieldsLaws.{fieldsFrom-zero, first-field}
+use Rattle.tabs.proofs.FieldsLaws.{fieldsFrom-zero, first-field}
 use Rattle.line.proofs.is_pair.Statement.{statement}
 use Rattle.line.proofs.is_pair.Tie as tie
 
@@ -18,7 +18,7 @@ returns : tie.Need-returns
 returns c =
     let n = c .before .before in
     let line = now (n .before .before .before .args .line) in
-    rw (c .same .ensures, c .before .part .ensures, n .count .ensures, fieldsFrom-zero line, first-field line)
+    rw (c .same .ensures, c .before .part .ensures .bytes, n .count .ensures, fieldsFrom-zero line, first-field line)
 
 pub is-pair-spec : {M : Type 1} → statement M
 is-pair-spec = tie.close (tie.spec count-requires part-requires same-requires returns)

@@ -37,7 +37,7 @@ returns-2 c =
     let t = c .before .before .before in
     let line = now (t .before .before .before .before .args .line) in
     let e : isPair memoryWord (fieldsOf line) ≡ true = sym (t .before .is-pair .ensures) ∙ not-false _ (t .if1 .left) in
-    c .size-of .ensures ∙ rw (c .before .field-value .ensures, c .before .before .second .ensures) (sym (memoryOf-isPair (fieldsOf line) ∙ rw e))
+    c .size-of .ensures ∙ rw (c .before .field-value .ensures, c .before .before .second .ensures .0) (sym (memoryOf-isPair (fieldsOf line) ∙ rw e))
 
 pub memory-of-spec : {M : Type 1} → statement M
 memory-of-spec =

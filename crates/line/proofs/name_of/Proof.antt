@@ -25,7 +25,7 @@ returns : tie.Need-returns
 unfolding nameOf
 returns c =
     let e : c .index-of .result ≡ first (same (now (c .before .second .result))) (fieldsOf (joined names)) = c .index-of .ensures in
-    e ∙ ap₂ (λ (w : List ℕ) (ws : List (List ℕ)). first (same w) ws) (c .before .second .ensures) names-joined
+    e ∙ ap₂ (λ (w : List ℕ) (ws : List (List ℕ)). first (same w) ws) (c .before .second .ensures .0) names-joined
 
 pub name-of-spec : {M : Type 1} → statement M
 name-of-spec =

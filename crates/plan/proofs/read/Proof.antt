@@ -1,21 +1,32 @@
--- `read` meets its contract: a short table, a long text, or the lines. Assumes nothing.
-use mathlib.Core.Path.{refl}
+-- `read` meets its contract: a short table, a long text, a refused plan, or an accepted one. Assumes nothing.
 use borrow.Author.Needs.{needs}
-use Rattle.plan.proofs.HandedLaws.{answered-short, answered-long, answered-lines}
+use Rattle.plan.proofs.PlanLaws.{answered-short, answered-long, answered-bad, answered-good}
 use Rattle.plan.proofs.read.Statement.{statement}
 use Rattle.plan.proofs.read.Tie as tie
 
 returns : tie.Need-returns
-returns c = answered-short _ _ (c .before .if1 .taken) (c .refused .ensures) refl
+returns c = answered-short _ _ (c .before .if1 .taken) (c .refused .ensures)
 
 returns-2 : tie.Need-returns-2
-returns-2 c = answered-long _ _ (c .before .before .if1 .left) (c .before .if2 .taken) (c .refused2 .ensures) refl
+returns-2 c = answered-long _ _ (c .before .before .if1 .left) (c .before .if2 .taken) (c .refused2 .ensures)
 
 returns-3 : tie.Need-returns-3
 returns-3 c =
-    let m = c .before .before in
-    let e = m .before .before in
-    answered-lines _ _ (e .before .if1 .left) (e .if2 .left) (m .read-memory .ensures)
+    let l = c .before .before .before in
+    answered-bad _ _ (l .before .before .if1 .left) (l .before .if2 .left) (l .read-lines .ensures .plan-is) (c .if3 .taken)
+
+store-axes-requires : tie.Need-store-axes-requires
+store-axes-requires c κs =
+    let e = c .before .before in
+    let l = e .before .before .before in
+    (l .before .before .if1 .left, l .read-lines .ensures .starts-at (e .if3 .left))
+
+returns-4 : tie.Need-returns-4
+returns-4 c =
+    let s = c .before .before in
+    let e = s .before .before .before in
+    let l = e .before .before .before in
+    answered-good _ _ (l .before .before .if1 .left) (l .before .if2 .left) (l .read-lines .ensures .plan-is) (e .if3 .left) (s .store-axes .ensures)
 
 pub read-spec : {M : Type 1} → statement M
 read-spec =
@@ -26,5 +37,7 @@ read-spec =
     (λ c κs. search needs)
     returns-2
     (λ c κs. search needs)
+    returns-3
+    store-axes-requires
     (λ c. search needs)
-    returns-3)
+    returns-4)

@@ -1,15 +1,35 @@
--- `with_axis` meets its contract: at most 64 ^ 8 points. Assumes nothing.
-use native.Mathlib.Nat.{mul-le-mul}
-use native.Mathlib.Omega.{arith}
+-- `with_axis` meets its contract. Assumes nothing.
+use mathlib.Core.Path.{_≡_, sym, ap, _∙_}
 use borrow.Author.Needs.{needs}
+use borrow.Author.Tests.{eq-eqb, ne-eqb}
+use denote.Ref.{now}
+use lib.Seq.{take-all}
+use lib.ListN.{length}
+use Rattle.text.specs.Text.{fieldsOf}
+use Rattle.plan.specs.State.{heldRefusal}
+use Rattle.plan.proofs.AxisLaws.{good}
 use Rattle.plan.proofs.with_axis.Statement.{statement}
 use Rattle.plan.proofs.with_axis.Tie as tie
 
-mul-points : tie.Need-mul-points
-mul-points c =
-    let p = c .before .before .before .before .pre in
-    omega (arith, mul-le-mul (p .points-le) (p .few))
+returns : tie.Need-returns
+returns c =
+    let a = c .before .before .before .before in
+    let is = ap (λ x. x .refusal) (a .axis-of .ensures) in
+    c .shut .ensures ∙ rw (c .before .refused .ensures, ← is, ne-eqb _ 0 (c .before .before .if1 .taken))
+
+with-values-requires : tie.Need-with-values-requires
+with-values-requires c κs =
+    let a = c .before .before in
+    let g = good _ _ _ (sym (ap (λ x. x .refusal) (a .axis-of .ensures)) ∙ c .if1 .left) in
+    rw (a .axis-of .ensures) (g .known, rw (take-all 64 _ (g .few)) (g .few), g .room, a .before .before .before .before .pre)
+
+returns-2 : tie.Need-returns-2
+returns-2 c =
+    let a = c .before .before .before in
+    let zero = sym (ap (λ x. x .refusal) (a .axis-of .ensures)) ∙ c .before .if1 .left in
+    c .with-values .ensures ∙ rw (a .axis-of .ensures, take-all 64 _ (good _ _ _ zero .few), eq-eqb _ 0 zero)
 
 pub with-axis-spec : {M : Type 1} → statement M
 with-axis-spec =
-    tie.close (tie.spec (λ c. search needs) (λ c. search needs) (λ c. search needs) (λ c. search needs) mul-points (λ c. search needs))
+    tie.close
+    (tie.spec (λ c κs. search needs) (λ c κs. search needs) (λ c κs. search needs) returns with-values-requires returns-2)

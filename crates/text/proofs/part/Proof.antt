@@ -1,7 +1,8 @@
 -- `text::part` meets its contract: what stands between the part's start and its end.
-use mathlib.Core.Path.{sym}
+use mathlib.Core.Path.{refl, sym}
 use native.Mathlib.Omega.{arith}
 use borrow.Author.Needs.{needs}
+use borrow.Author.Tests.{lt-ltb, le-ltb}
 use Rattle.text.proofs.TextLaws.{upTo-past, part-end-le, part-take}
 use Rattle.text.proofs.part.Statement.{statement}
 use Rattle.text.proofs.part.Tie as tie
@@ -16,7 +17,13 @@ part-result-end : tie.Need-part-result-end
 part-result-end c = search needs
 
 returns : tie.Need-returns
-returns c = let a = c .before .before .before .args in sym (upTo-past (a .mark) (a .text .now) (a .from) (omega arith))
+returns c =
+    let a = c .before .before .before .args in
+    record {
+      bytes = sym (upTo-past (a .mark) (a .text .now) (a .from) (omega arith));
+      block = refl;
+      starts = rw (lt-ltb _ _ (c .before .if1 .taken)) (omega arith);
+    }
 
 part-end-requires : tie.Need-part-end-requires
 part-end-requires c κs = search needs
@@ -31,7 +38,9 @@ part-result-end-2 : tie.Need-part-result-end-2
 part-result-end-2 c = part-end-le _ _ _ _ (c .part-end .ensures) (c .before .if1 .left)
 
 returns-2 : tie.Need-returns-2
-returns-2 c = part-take _ _ _ _ (c .before .part-end .ensures)
+returns-2 c =
+    let e = c .before in
+    record { bytes = part-take _ _ _ _ (e .part-end .ensures); block = refl; starts = rw (le-ltb _ _ (e .before .if1 .left)) (omega arith) }
 
 pub part-spec : {M : Type 1} → statement M
 part-spec =

@@ -1,0 +1,148 @@
+// The axis line, over the line's bytes: its refusal, its name, and its values.
+ghost use mathlib.Core.Path.{_≡_};
+ghost use mathlib.Core.Bool.{false, _||_};
+ghost use Prim.Native.Nat.{_+_, _-_};
+ghost use lib.Dec.{eqb, leb};
+ghost use lib.ListN.{length, getD, take, drop};
+ghost use Rattle.lists.specs.Search.{any, anyPair};
+ghost use Rattle.text.specs.Text.{fieldsOf, same};
+ghost use Rattle.points.specs.Axes.{limit};
+ghost use Rattle.tabs.specs.Fields.{behind};
+ghost use Rattle.values.specs.Block.{valuesFrom, BlockAt};
+ghost use Rattle.tabs.specs.Fields.{noNumber};
+ghost use Rattle.axis.specs.Axis.{valuesOf, badForm, badName, axisLine, storedAt};
+use values::Block;
+use values::Test;
+
+// What an `axis` line is: 0 or its refusal, its name's number, and how many values it has, at most 64.
+pub struct AxisLine {
+    pub refusal: u32,
+    pub name: u64,
+    pub count: u64,
+}
+
+// An `axis` line after so many axes, where these names came before. Its first 64 values are read once.
+pub fn axis_of(line: &[u8], seen: [bool; 14], axes: u64) -> AxisLine
+    ensures { λ r. ⌜ r ≡ axisLine (λ name. getD seen name false) axes (fieldsOf (now (line .entry))) ⌝ }
+{
+    let values = tabs::third_at(line);
+    let name = line::name_of(line);
+    let most = greatest(name);
+    let b = values::block_at(line, values, most);
+    let behind = b.behind;
+    let count = b.count as u64;
+    if bad_form(
+        line,
+        b.bad | values::any_field(line, behind, Test::NoNumber),
+    ) {
+        return axis_line(20, name, count);
+    }
+    if bad_name(name, came(seen, name)) {
+        return axis_line(21, name, count);
+    }
+    if bad_values(line, values, most, b) {
+        return axis_line(22, name, count);
+    }
+    if too_many(axes, behind <= line.len()) {
+        return axis_line(23, name, count);
+    }
+    axis_line(0, name, count)
+}
+
+// Stores the values of an `axis` line from an index on, as far as there is room. Hands back how many these are.
+pub fn store_values(line: &[u8], table: &mut [u64], at: usize) -> u64
+    ensures told { λ r. ⌜ r ≡ length (take (length (now (table .entry)) - at) (valuesOf (fieldsOf (now (line .entry))))) ⌝ }
+    ensures entered { λ r. ⌜ now (table .exit) ≡ storedAt at (valuesOf (fieldsOf (now (line .entry)))) (now (table .entry)) ⌝ }
+{
+    let mut p = tabs::third_at(line);
+    let mut i = at;
+    while i < table.len() {
+        if line.len() < p {
+            return (i - at) as u64;
+        }
+        let end = text::part_end(line, p, 9);
+        table[i] = tabs::field_value(&line[p..end]);
+        i += 1;
+        p = end + 1;
+    }
+    (i - at) as u64
+}
+
+// 20: another form, an empty name, a value that is no number, as told.
+fn bad_form(line: &[u8], bad: bool) -> bool
+    requires { ⌜ bad ≡ any noNumber (drop 2 (fieldsOf (now line))) ⌝ }
+    ensures { λ r. ⌜ r ≡ badForm (fieldsOf (now (line .entry))) ⌝ }
+{
+    if line.len() < tabs::third_at(line) {
+        return true;
+    }
+    let other = !text::same(text::part(line, 0, 9), b"axis");
+    let empty = tabs::second(line).len() == 0;
+    other | empty | bad
+}
+
+// 21: the name is unknown or came before.
+fn bad_name(name: u64, came: bool) -> bool
+    ensures { λ r. ⌜ r ≡ badName (λ _. came) name ⌝ }
+{
+    (14 <= name) | came
+}
+
+// Did the name come?
+fn came(seen: [bool; 14], name: u64) -> bool
+    ensures { λ r. ⌜ r ≡ getD seen name false ⌝ }
+{
+    if 14 <= name {
+        return false;
+    }
+    seen[name as usize]
+}
+
+// 22: a value from a place on is above this one, or stands twice, where the first block of them is known.
+fn bad_values(line: &[u8], from: usize, most: u64, b: Block) -> bool
+    requires { ⌜ BlockAt (now line) from most b ⌝ }
+    ensures { λ r. ⌜ r ≡ (any (leb (most + 1)) (valuesFrom (now (line .entry)) from) || anyPair eqb (valuesFrom (now (line .entry)) from)) ⌝ }
+{
+    let values = b.values;
+    let count = b.count;
+    let behind = b.behind;
+    if b.above | values::any_same(&values[..count]) {
+        return true;
+    }
+    if values::any_field(line, behind, Test::Above(most))
+        | values::any_among(line, behind, &values[..count])
+    {
+        return true;
+    }
+    values::any_twice(line, behind)
+}
+
+// 23: more than 8 axes, or more than 64 values on one: some are left behind the first block.
+fn too_many(axes: u64, left: bool) -> bool
+    ensures { λ r. ⌜ r ≡ (leb 8 axes || left) ⌝ }
+{
+    (8 <= axes) | left
+}
+
+fn axis_line(refusal: u32, name: u64, count: u64) -> AxisLine
+    ensures { λ r. ⌜ r ≡ (record { refusal = refusal; name = name; count = count }) ⌝ }
+{
+    AxisLine {
+        refusal,
+        name,
+        count,
+    }
+}
+
+// The greatest value of a name: one less than its limit.
+fn greatest(name: u64) -> u64
+    ensures { λ r. ⌜ r + 1 ≡ limit name ⌝ }
+{
+    if name < 10 {
+        return 4294967295;
+    }
+    if name < 13 {
+        return 65535;
+    }
+    18446744073709551615
+}
