@@ -1,5 +1,5 @@
 -- Laws of `specs/Axis.antt`. No contract cites this file. Assumes nothing.
-use mathlib.Core.Path.{_≡_, refl}
+use mathlib.Core.Path.{_≡_, refl, sym}
 use mathlib.Core.Bool.{Bool, true, not, _||_}
 use mathlib.Core.List.{List, [], _∷_, map}
 use Prim.Native.Nat.{ℕ, suc, _+_, _-_, _<_, _≤_}
@@ -27,13 +27,17 @@ badForm-few (word ∷ []) e = refl
 badForm-few (word ∷ name ∷ []) e = refl
 badForm-few (word ∷ name ∷ v ∷ vs) e = let z : _≡_ {A = ℕ} 0 1 = cc in absurd (omega arith)
 
-pub badForm-some : (fields : List (List ℕ)) (v : List ℕ) (vs : List (List ℕ)) → drop 2 fields ≡ v ∷ vs
+badForm-some : (fields : List (List ℕ)) (v : List ℕ) (vs : List (List ℕ)) → drop 2 fields ≡ v ∷ vs
     → badForm fields ≡ (not (same (getD fields 0 []) axisWord) || same (getD fields 1 []) [] || any noNumber (drop 2 fields))
 unfolding badForm
 badForm-some [] v vs e = let z : _≡_ {A = ℕ} 0 1 = cc in absurd (omega arith)
 badForm-some (word ∷ []) v vs e = let z : _≡_ {A = ℕ} 0 1 = cc in absurd (omega arith)
 badForm-some (word ∷ name ∷ []) v vs e = let z : _≡_ {A = ℕ} 0 1 = cc in absurd (omega arith)
 badForm-some (word ∷ name ∷ f ∷ fs) v vs e = refl
+
+pub badForm-is : (fields : List (List ℕ)) (v : List ℕ) (vs : List (List ℕ)) {word empty bad : Bool} → drop 2 fields ≡ v ∷ vs
+    → word ≡ same (getD fields 0 []) axisWord → empty ≡ same (getD fields 1 []) [] → bad ≡ any noNumber (drop 2 fields) → (not word || empty || bad) ≡ badForm fields
+badForm-is fields v vs some w e b = rw (w, e, b) (sym (badForm-some fields v vs some))
 
 pub same-empty : (name : List ℕ) → same name [] ≡ eqb (length name) 0
 unfolding same

@@ -1,7 +1,6 @@
 // The memory line, the draw line, and the name of an axis line, each over the line's bytes.
 ghost use mathlib.Core.Path.{_≡_};
-ghost use Prim.Native.Nat.{_-_};
-ghost use Rattle.text.specs.Text.{fieldsOf, same};
+ghost use Rattle.text.specs.Text.{fieldsOf};
 ghost use Rattle.line.specs.Tests.{isPair};
 ghost use Rattle.line.specs.Line.{sizeOf, memoryOf, drawOf, nameOf};
 

@@ -1,15 +1,13 @@
 // The fields of a line, parted by one tab: which and how many there are, and each as a number.
 ghost use mathlib.Core.Path.{_≡_};
-ghost use mathlib.Core.Bool.{false};
 ghost use mathlib.Core.List.{[]};
-ghost use Prim.Native.Nat.{_+_, _-_, _≤_};
+ghost use Prim.Native.Nat.{_+_, _≤_};
 ghost use lib.ListN.{length, getD};
 ghost use Rattle.lists.specs.Search.{first};
 ghost use Rattle.text.specs.Text.{fieldsOf, same};
 ghost use Rattle.text.specs.Number.{valueOf, isBad};
 ghost use Rattle.text.specs.Part.{PartOf};
-ghost use Rattle.tabs.specs.Fields.{fieldsFrom, behind, thirdAt};
-ghost use Rattle.tabs.specs.Fields.{fieldValue, noNumber};
+ghost use Rattle.tabs.specs.Fields.{fieldsFrom, behind, thirdAt, fieldValue, noNumber};
 use text::Number;
 
 // The second field, as that part of the line: empty where there is none.

@@ -15,7 +15,8 @@ use Rattle.drawing.specs.Draw.{outcomeAt, visitedBy, outcome, drawn}
 use Rattle.refusals.proofs.RefusalLaws.{refusal-ten}
 use Rattle.slices.proofs.OutcomeLaws.{outcome-refused}
 use Rattle.run.proofs.LinesLaws.{refusal-le}
-use Rattle.theorems.specs.Refused.{DrawRefused, DrawAccepted, DrawNumbers, PixtRefused, DravRefused, WriteRefused, ImageRefused, FetchRefused, OfRefusals}
+use Rattle.plan.proofs.PlanLaws.{tableAfter-refused}
+use Rattle.theorems.specs.Refused.{DrawRefused, DrawAccepted, DrawNumbers, PixtRefused, DravRefused, WriteRefused, ImageRefused, FetchRefused, PlanRefused, OfRefusals}
 
 pub draw-refused : DrawRefused
 unfolding outcome drawn
@@ -52,6 +53,9 @@ pub fetch-refused : FetchRefused
 unfolding fetched
 fetch-refused c address control e = rw e
 
+pub plan-refused : PlanRefused
+plan-refused text t = tableAfter-refused text t
+
 pub of-refusals : OfRefusals
 of-refusals =
     record {
@@ -63,4 +67,5 @@ of-refusals =
       write-refused = write-refused;
       image-refused = image-refused;
       fetch-refused = fetch-refused;
+      plan-refused = plan-refused;
     }

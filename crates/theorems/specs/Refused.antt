@@ -18,6 +18,7 @@ use Rattle.drav.specs.Drav.{dravOf}
 use Rattle.operation.specs.declared.Operation.{Operation}
 use Rattle.refusals.specs.Refusal.{refusal}
 use Rattle.drawing.specs.Draw.{outcome, drawn}
+use Rattle.plan.specs.Table.{planOf, tableAfter}
 
 -- FILL and PIXBLT: place, V, registers and settings come back as given, nothing is visited, there is no request, and memory stays.
 abbrev pub DrawRefused : Type 0
@@ -73,6 +74,10 @@ ImageRefused = (m : List ℕ) (seed : ℕ) → noMemory (length m) ≡ true → 
 abbrev pub FetchRefused : Type 0
 FetchRefused = (c : Cache) (address control : ℕ) → refused c ≡ true → fetched c address control ≡ record { kind = Refused; cache = c }
 
+-- Reading a plan: the lent table stays.
+abbrev pub PlanRefused : Type 0
+PlanRefused = (text t : List ℕ) → (planOf text (length t) .answer ≡ 0 → ⊥) → tableAfter text t ≡ t
+
 -- every statement of this file
 pub record OfRefusals : Type 0 where
   pub draw-refused : DrawRefused
@@ -83,3 +88,4 @@ pub record OfRefusals : Type 0 where
   pub write-refused : WriteRefused
   pub image-refused : ImageRefused
   pub fetch-refused : FetchRefused
+  pub plan-refused : PlanRefused

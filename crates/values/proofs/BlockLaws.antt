@@ -61,8 +61,8 @@ pub record Filled (line : List ℕ) (from most : ℕ) (values : List ℕ) (count
   pub over : any (passes (Above most)) (fieldsFrom line from) ≡ (above || any (passes (Above most)) (fieldsFrom line p))
 
 -- there is room, and the place is one of the line
-pub fill-test : (count p n : ℕ) → (ltb count 64 && leb p n) ≡ true → (count < 64) × (p ≤ n)
-fill-test count p n e = let t = and-eq-true-iff (ltb count 64) (leb p n) .0 e in (ltb-true _ _ (t .0), leb-true _ _ (t .1))
+pub fill-test : (count k p n : ℕ) → (ltb count k && leb p n) ≡ true → (count < k) × (p ≤ n)
+fill-test count k p n e = let t = and-eq-true-iff (ltb count k) (leb p n) .0 e in (ltb-true _ _ (t .0), leb-true _ _ (t .1))
 
 module _ {line : List ℕ} {from most : ℕ} {values : List ℕ} {count p : ℕ} {bad above : Bool} (f : Filled line from most values count p bad above) where
   -- with e the end of the field at the place, and n what is read there

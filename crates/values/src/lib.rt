@@ -1,14 +1,11 @@
 // The values of a line from a place on: blocks of them, and searches among them.
 ghost use mathlib.Core.Path.{_≡_};
-ghost use mathlib.Core.Bool.{false};
 ghost use mathlib.Core.List.{map};
-ghost use Prim.Native.Nat.{_+_, _-_};
 ghost use lib.Dec.{eqb};
 ghost use Rattle.lists.specs.Search.{any, anyPair};
-ghost use Rattle.tabs.specs.Fields.{fieldsFrom, behind};
+ghost use Rattle.tabs.specs.Fields.{fieldsFrom, fieldValue};
 ghost use Rattle.values.specs.Tests.{passes};
 ghost use Rattle.values.specs.Block.{BlockAt};
-ghost use Rattle.tabs.specs.Fields.{fieldValue};
 
 // A test of a field.
 pub enum Test {

@@ -1,10 +1,13 @@
 -- `axis::bad_form` meets its contract: too few fields, or the tests of each.
-use mathlib.Core.Path.{refl, sym, _∙_}
+use mathlib.Core.Path.{refl, sym, ap, _∙_}
+use mathlib.Core.List.{List, []}
+use Prim.Native.Nat.{ℕ}
 use borrow.Author.Needs.{needs}
 use denote.Ref.{now}
-use Rattle.text.specs.Text.{fieldsOf}
+use Rattle.text.specs.Text.{fieldsOf, same}
+use Rattle.line.specs.Words.{axisWord}
 use Rattle.tabs.proofs.FieldsLaws.{fieldsFrom-past, fieldsFrom-cons, first-field, fieldsFrom-thirdAt}
-use Rattle.axis.proofs.AxisLaws.{badForm-few, badForm-some, same-empty}
+use Rattle.axis.proofs.AxisLaws.{badForm-few, badForm-is, same-empty}
 use Rattle.axis.proofs.bad_form.Statement.{statement}
 use Rattle.axis.proofs.bad_form.Tie as tie
 
@@ -34,15 +37,10 @@ returns-2 c =
     let p = t .before in
     let line = now (p .before .before .args .line) in
     let some = sym (fieldsFrom-thirdAt line) ∙ rw (p .third-at .ensures) at (fieldsFrom-cons line (p .third-at .result) _ refl (t .if1 .left)) in
-    rw (
-      p .before .before .pre,
-      ← same-empty (now (c .second .result)),
-      c .second .ensures .0,
-      c .before .same .ensures,
-      c .before .before .before .part .ensures .bytes,
-      first-field line,
-    )
-    (sym (badForm-some (fieldsOf line) _ _ some))
+    badForm-is (fieldsOf line) _ _ some
+    (c .before .same .ensures ∙ ap (λ (w : List ℕ). same w axisWord) (c .before .before .before .part .ensures .bytes ∙ first-field line))
+    (sym (same-empty (now (c .second .result))) ∙ ap (λ (w : List ℕ). same w []) (c .second .ensures .0))
+    (p .before .before .pre)
 
 pub bad-form-spec : {M : Type 1} → statement M
 bad-form-spec =

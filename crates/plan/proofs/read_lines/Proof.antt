@@ -136,7 +136,18 @@ Xⁿ = sliceTy (tyRef (named 0) imm (tyInt w8))
 abbrev Xᵉ : Ty
 Xᵉ = sliceTy (tyRef erased imm (tyInt w8))
 
--- The locals are made, whatever the types of the state, the reader and the line are
+-- The locals, whatever the types of the state, the reader and the line are
+module _ {M : Type 1} (𝓤 : URA M) (H : Heap 𝓤) (κ : Lft) (q : Share) (s : RefT (List ℕ)) (Qᵗ Rᵉ Sᵗ : Ty) (l₀ l₁ l₂ l₃ l₄ l₅ l₆ l₇ l₈ : ℕ) where
+  abbrev Locals : Env 𝓤 H
+  Locals = (Qᵗ, l₀) ∷ (Xⁿ, l₁) ∷ (Rᵉ, l₂) ∷ (Qᵗ, l₃) ∷ (Sᵗ, l₄) ∷ (tyBool, l₅) ∷ (Rᵉ, l₆) ∷ (Xᵉ, l₇) ∷ (Rᵉ, l₈) ∷ []
+
+  -- between two turns: the token, room for what a turn makes, what the text owns, the text, room for the result, and that each local dies
+  abbrev Between : List (Item 𝓤)
+  Between = (‵ (flft κ q) ⊛ ‵ ftrue)
+      ∷ ‵ (froom Sᵗ l₄ 0) ∷ ‵ (froom tyBool l₅ 0) ∷ ‵ (froom Rᵉ l₆ 0) ∷ ‵ (froom Xᵉ l₇ 0) ∷ ‵ (froom Rᵉ l₈ 0)
+      ∷ ‵ (TextOwn κ s) ∷ ‵ (fat fullShare Xⁿ l₁ 0 (textVal s)) ∷ ‵ (froom Qᵗ l₀ 0)
+      ∷ ‵ (fdies Qᵗ l₀) ∷ ‵ (fdies Xⁿ l₁) ∷ ‵ (fdies Rᵉ l₂) ∷ ‵ (fdies Qᵗ l₃) ∷ ‵ (fdies Sᵗ l₄) ∷ ‵ (fdies tyBool l₅) ∷ ‵ (fdies Rᵉ l₆) ∷ ‵ (fdies Xᵉ l₇) ∷ ‵ (fdies Rᵉ l₈) ∷ []
+
 module _ {M : Type 1} (𝓤 : URA M) (H : Heap 𝓤) (A : Atoms 𝓤) (W : Given 𝓤 H A) (κ : Lft) (q : Share) (s : RefT (List ℕ)) (Qᵗ Rᵉ Sᵗ : Ty) where
   abbrev function : Fn
   function =
@@ -152,12 +163,8 @@ module _ {M : Type 1} (𝓤 : URA M) (H : Heap 𝓤) (A : Atoms 𝓤) (W : Given
 
   enters : (C : Calls 𝓤 H) (Λ : Loops 𝓤 H) (Post : Val → SProp 𝓤) → Is (ShrSlice (named 0) κ u8) s (textVal s ∷ [])
       → ((l₀ l₁ l₂ l₃ l₄ l₅ l₆ l₇ l₈ : ℕ)
-      → let En : Env 𝓤 H = (Qᵗ, l₀) ∷ (Xⁿ, l₁) ∷ (Rᵉ, l₂) ∷ (Qᵗ, l₃) ∷ (Sᵗ, l₄) ∷ (tyBool, l₅) ∷ (Rᵉ, l₆) ∷ (Xᵉ, l₇) ∷ (Rᵉ, l₈) ∷ [] in
-      ent 𝓤 (⋆ 𝓤 H A (‵ (froom Rᵉ l₂ 0) ∷ ‵ (froom Qᵗ l₃ 0) ∷ (‵ (flft κ q) ⊛ ‵ ftrue)
-      ∷ ‵ (froom Sᵗ l₄ 0) ∷ ‵ (froom tyBool l₅ 0) ∷ ‵ (froom Rᵉ l₆ 0) ∷ ‵ (froom Xᵉ l₇ 0) ∷ ‵ (froom Rᵉ l₈ 0)
-      ∷ ‵ (TextOwn κ s) ∷ ‵ (fat fullShare Xⁿ l₁ 0 (textVal s)) ∷ ‵ (froom Qᵗ l₀ 0)
-      ∷ ‵ (fdies Qᵗ l₀) ∷ ‵ (fdies Xⁿ l₁) ∷ ‵ (fdies Rᵉ l₂) ∷ ‵ (fdies Qᵗ l₃) ∷ ‵ (fdies Sᵗ l₄) ∷ ‵ (fdies tyBool l₅) ∷ ‵ (fdies Rᵉ l₆) ∷ ‵ (fdies Xᵉ l₇) ∷ ‵ (fdies Rᵉ l₈) ∷ []))
-      (Wp 𝓤 H C Λ En body (atReturn 𝓤 H En Post)))
+      → let En = Locals 𝓤 H κ q s Qᵗ Rᵉ Sᵗ l₀ l₁ l₂ l₃ l₄ l₅ l₆ l₇ l₈ in
+      ent 𝓤 (⋆ 𝓤 H A (‵ (froom Rᵉ l₂ 0) ∷ ‵ (froom Qᵗ l₃ 0) ∷ Between 𝓤 H κ q s Qᵗ Rᵉ Sᵗ l₀ l₁ l₂ l₃ l₄ l₅ l₆ l₇ l₈)) (Wp 𝓤 H C Λ En body (atReturn 𝓤 H En Post)))
       → ent 𝓤 (⋆ 𝓤 H A ((‵ (flft κ q) ⊛ ‵ ftrue) ∷ ‵ (owns (ShrSlice (named 0) κ u8 ∷ []) (s, tt) (textVal s ∷ [], tt)) ∷ [])) (WpFn 𝓤 H C Λ function (textVal s ∷ []) Post)
   enters C Λ Post p k =
       qed W ((‵ (flft κ q) ⊛ ‵ ftrue) ∷ ‵ (owns (ShrSlice (named 0) κ u8 ∷ []) (s, tt) (textVal s ∷ [], tt)) ∷ []) ∵ enter ! C Λ function (textVal s ∷ []) _ $
@@ -313,17 +320,14 @@ module _ {M : Type 1} (𝓤 : URA M) (H : Heap 𝓤) (A : Atoms 𝓤) (W : Given
     Qᵗ = Q′.mir
 
     abbrev En : Env 𝓤 H
-    En = (Qᵗ, l₀) ∷ (Xⁿ, l₁) ∷ (Rᵉ, l₂) ∷ (Qᵗ, l₃) ∷ (Sᵗ, l₄) ∷ (tyBool, l₅) ∷ (Rᵉ, l₆) ∷ (Xᵉ, l₇) ∷ (Rᵉ, l₈) ∷ []
+    En = Locals 𝓤 H κ q s Qᵗ Rᵉ Sᵗ l₀ l₁ l₂ l₃ l₄ l₅ l₆ l₇ l₈
 
-    -- what no turn touches
-    abbrev Frame : List (Item 𝓤)
-    Frame = ‵ (TextOwn κ s) ∷ ‵ (fat fullShare Xⁿ l₁ 0 (textVal s)) ∷ ‵ (froom Qᵗ l₀ 0)
-        ∷ ‵ (fdies Qᵗ l₀) ∷ ‵ (fdies Xⁿ l₁) ∷ ‵ (fdies Rᵉ l₂) ∷ ‵ (fdies Qᵗ l₃) ∷ ‵ (fdies Sᵗ l₄) ∷ ‵ (fdies tyBool l₅) ∷ ‵ (fdies Rᵉ l₆) ∷ ‵ (fdies Xᵉ l₇) ∷ ‵ (fdies Rᵉ l₈) ∷ []
+    abbrev Rest : List (Item 𝓤)
+    Rest = Between 𝓤 H κ q s Qᵗ Rᵉ Sᵗ l₀ l₁ l₂ l₃ l₄ l₅ l₆ l₇ l₈
 
     -- the reader stands at a place, and x is read
     abbrev At : ℕ → ℕ → State → List (Item 𝓤)
-    At n m x = ‵ (fat fullShare Rᵉ l₂ 0 (T′.lowered (rd n m))) ∷ ‵ (fat fullShare Qᵗ l₃ 0 (stateVal x)) ∷ ‵ (StateOwn x) ∷ token
-        ∷ ‵ (froom Sᵗ l₄ 0) ∷ ‵ (froom tyBool l₅ 0) ∷ ‵ (froom Rᵉ l₆ 0) ∷ ‵ (froom Xᵉ l₇ 0) ∷ ‵ (froom Rᵉ l₈ 0) ∷ Frame
+    At n m x = ‵ (fat fullShare Rᵉ l₂ 0 (T′.lowered (rd n m))) ∷ ‵ (fat fullShare Qᵗ l₃ 0 (stateVal x)) ∷ ‵ (StateOwn x) ∷ Rest
 
     abbrev Left : Out → SProp 𝓤
     Left = afterBlock 𝓤 H (afterSeq 𝓤 H (Wp 𝓤 H C Λ En rest (atReturn 𝓤 H En Post)) (atReturn 𝓤 H En Post))
@@ -463,12 +467,10 @@ module _ {M : Type 1} (𝓤 : URA M) (H : Heap 𝓤) (A : Atoms 𝓤) (W : Given
         (loop-rule 𝓤 H (W .laws) 𝓣 _<_ (Nat·lt-wfRel .wf) En turn Left Inv turns (length text + 1))
 
     -- before the loop: the state is made
-    begins-state : ent 𝓤 (⋆ 𝓤 H A (‵ (fat fullShare Rᵉ l₂ 0 (T′.lowered (rd 0 1))) ∷ ‵ (froom Qᵗ l₃ 0) ∷ token
-        ∷ ‵ (froom Sᵗ l₄ 0) ∷ ‵ (froom tyBool l₅ 0) ∷ ‵ (froom Rᵉ l₆ 0) ∷ ‵ (froom Xᵉ l₇ 0) ∷ ‵ (froom Rᵉ l₈ 0) ∷ Frame))
+    begins-state : ent 𝓤 (⋆ 𝓤 H A (‵ (fat fullShare Rᵉ l₂ 0 (T′.lowered (rd 0 1))) ∷ ‵ (froom Qᵗ l₃ 0) ∷ Rest))
         (Wp 𝓤 H C Λ En then (atReturn 𝓤 H En Post))
     begins-state =
-        qed W (‵ (fat fullShare Rᵉ l₂ 0 (T′.lowered (rd 0 1))) ∷ ‵ (froom Qᵗ l₃ 0) ∷ token
-        ∷ ‵ (froom Sᵗ l₄ 0) ∷ ‵ (froom tyBool l₅ 0) ∷ ‵ (froom Rᵉ l₆ 0) ∷ ‵ (froom Xᵉ l₇ 0) ∷ ‵ (froom Rᵉ l₈ 0) ∷ Frame) ∵
+        qed W (‵ (fat fullShare Rᵉ l₂ 0 (T′.lowered (rd 0 1))) ∷ ‵ (froom Qᵗ l₃ 0) ∷ Rest) ∵
         exec ! C Λ En then (atRet En Post) $ nothing ! $ nothing ! $ use2 W (raw (Starting 𝓤 H A mem run .pre to-start)) goes-start $
         -- [what `nothing_read` asks; _2; room for _3; the token; …]
         calls-at ! fm (Starting 𝓤 H A mem run) starts to-start (no-more !) (λ u.
@@ -483,12 +485,10 @@ module _ {M : Type 1} (𝓤 : URA M) (H : Heap 𝓤) (A : Atoms 𝓤) (W : Given
         keep ! (1 ∷ 2 ∷ 0 ∷ 3 ∷ 4 ∷ 5 ∷ 6 ∷ 7 ∷ 8 ∷ 9 ∷ 10 ∷ 11 ∷ 12 ∷ 13 ∷ 14 ∷ 15 ∷ 16 ∷ 17 ∷ 18 ∷ 19 ∷ 20 ∷ []) $ by ! loops))))
 
     -- and before it the reader
-    begins : ent 𝓤 (⋆ 𝓤 H A (‵ (froom Rᵉ l₂ 0) ∷ ‵ (froom Qᵗ l₃ 0) ∷ token
-        ∷ ‵ (froom Sᵗ l₄ 0) ∷ ‵ (froom tyBool l₅ 0) ∷ ‵ (froom Rᵉ l₆ 0) ∷ ‵ (froom Xᵉ l₇ 0) ∷ ‵ (froom Rᵉ l₈ 0) ∷ Frame))
+    begins : ent 𝓤 (⋆ 𝓤 H A (‵ (froom Rᵉ l₂ 0) ∷ ‵ (froom Qᵗ l₃ 0) ∷ Rest))
         (Wp 𝓤 H C Λ En body (atReturn 𝓤 H En Post))
     begins =
-        qed W (‵ (froom Rᵉ l₂ 0) ∷ ‵ (froom Qᵗ l₃ 0) ∷ token
-        ∷ ‵ (froom Sᵗ l₄ 0) ∷ ‵ (froom tyBool l₅ 0) ∷ ‵ (froom Rᵉ l₆ 0) ∷ ‵ (froom Xᵉ l₇ 0) ∷ ‵ (froom Rᵉ l₈ 0) ∷ Frame) ∵
+        qed W (‵ (froom Rᵉ l₂ 0) ∷ ‵ (froom Qᵗ l₃ 0) ∷ Rest) ∵
         exec ! C Λ En body (atRet En Post) $
         move ! (8 ∷ []) $ use1 W (‵ (TextOwn κ s) ⊛ ‵ (TextOwn κ s)) (text-twice 𝓤 H A W κ s) $ split ! $
         move ! (0 ∷ 4 ∷ []) $ use2 W (raw (Making 𝓤 H A mem run .pre to-make)) goes-make $

@@ -19,7 +19,9 @@ loop-holds : tie.Need-loop-holds Inv-loop μ-loop
 loop-holds c = record { size = refl; room = omega arith; split = refl; passed = omega arith; told = refl; over = refl }
 
 tested : (c : tie.In-loop Inv-loop μ-loop) → (c .before .loop .count < 64) × (c .before .loop .p ≤ length (c .before .before .before .args .line .now))
-tested c = fill-test (c .before .loop .count) (c .before .loop .p) (length (c .before .before .before .args .line .now)) (c .loop-test .taken)
+tested c =
+    let t = fill-test (c .before .loop .count) _ (c .before .loop .p) (length (c .before .before .before .args .line .now)) (c .loop-test .taken) in
+    (omega (arith, t .0), t .1)
 
 part-end-requires : tie.Need-part-end-requires Inv-loop μ-loop
 part-end-requires c κs = search needs
