@@ -17,6 +17,7 @@ use Rattle.cache.specs.declared.Fetched.{Fetched}
 
 -- Refusal 19
 
+-- the order isn't a permutation of the four segments, a start address is above 2^23 - 1, or two segments that hold something have the same one
 unfoldable pub refused : Cache → Bool
 refused c = badOrder (c .order) || any tooHigh (c .segments) || anyPair clash (c .segments)
 

@@ -10,7 +10,7 @@ use Rattle.plan.proofs.taken.Tie as tie
 returns : tie.Need-returns
 returns c =
     let s = c .before .before .before .before in
-    rw (c .at-end .ensures) (after-end (s .pre .1) (s .pre .2) (c .before .if1 .taken))
+    rw (c .at-end .ensures) (after-end (s .pre .1) (s .pre .2) (omega (arith, c .before .if1 .taken)))
 
 sub-line : tie.Need-sub-line
 sub-line c = omega (arith, c .before .before .before .pre .1 .reached .ends)
@@ -26,7 +26,7 @@ returns-2 c =
     let e = c .before .before .before .before .before in
     let s = e .before .before .before in
     rw (c .with-memory .ensures, c .before .memory-of .ensures)
-    (after-memory (s .pre .1) (s .pre .2) (e .if1 .left) _ (part-take 10 _ _ _ (s .pre .1 .reached .ends)) (c .before .before .if2 .taken))
+    (after-memory (s .pre .1) (s .pre .2) (omega (arith, e .if1 .left)) _ (part-take 10 _ _ _ (s .pre .1 .reached .ends)) (c .before .before .if2 .taken))
 
 returns-3 : tie.Need-returns-3
 returns-3 c =
@@ -34,7 +34,7 @@ returns-3 c =
     let e = w .before .before .before in
     let s = e .before .before .before in
     rw (c .with-draw .ensures, c .before .draw-of .ensures)
-    (after-draw (s .pre .1) (s .pre .2) (e .if1 .left) _ (part-take 10 _ _ _ (s .pre .1 .reached .ends)) (w .if2 .left) (c .before .before .if3 .taken))
+    (after-draw (s .pre .1) (s .pre .2) (omega (arith, e .if1 .left)) _ (part-take 10 _ _ _ (s .pre .1 .reached .ends)) (w .if2 .left) (c .before .before .if3 .taken))
 
 with-axis-requires : tie.Need-with-axis-requires
 with-axis-requires c κs =
@@ -48,7 +48,7 @@ returns-4 c =
     let e = w .before .before .before in
     let s = e .before .before .before in
     rw (c .with-axis .ensures)
-    (after-axis (s .pre .1) (s .pre .2) (e .if1 .left) _ (part-take 10 _ _ _ (s .pre .1 .reached .ends)) (w .if2 .left) (c .before .if3 .left))
+    (after-axis (s .pre .1) (s .pre .2) (omega (arith, e .if1 .left)) _ (part-take 10 _ _ _ (s .pre .1 .reached .ends)) (w .if2 .left) (c .before .if3 .left))
 
 pub taken-spec : {M : Type 1} → statement M
 taken-spec =
