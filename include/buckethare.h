@@ -201,8 +201,8 @@ uint32_t bh_changed(const uint16_t *before, size_t words_before, const uint16_t 
 /* A table has a plan's axes one after another: of each the number of its name, how many values it
    has, and these. So many elements are enough for every plan. A table doesn't hold axes, and has no
    points, where there are more than 8, a name isn't below 14, there are not 1 to 64 values, they
-   aren't all there, or one of them is too large for its name (2^32 or more; of CONTROL, PSIZE and
-   PMASK 65,536 or more). */
+   aren't all there, or one of them is too large for its name (65,536 or more for CONTROL, PSIZE and
+   PMASK; 2^32 or more for every other but SEED). */
 #define BH_TABLE 528
 
 /* The results of reading are five numbers: the line of the refusal (0 where there is none), the

@@ -15,9 +15,9 @@ use Rattle.tabs.specs.Fields.{fieldValue}
 use Rattle.line.specs.Line.{nameOf}
 use Rattle.axis.specs.Axis.{valuesOf, badValues, tooMany}
 use Rattle.tabs.specs.Fields.{thirdAt}
-use Rattle.values.specs.Block.{valuesFrom, BlockAt}
+use Rattle.values.specs.Block.{valuesFrom}
 use Rattle.tabs.proofs.FieldsLaws.{fieldsFrom-cons, fieldsFrom-past, fieldsFrom-thirdAt}
-use Rattle.values.proofs.BlockLaws.{badFrom}
+use Rattle.values.proofs.BlockLaws.{Held, badFrom}
 
 -- At the third field these are the values of an axis line, against the greatest of its name
 pub badFrom-thirdAt : (line : List ℕ) (from name most : ℕ) → from ≡ thirdAt line → name ≡ nameOf (fieldsOf line) → most + 1 ≡ limit name
@@ -27,7 +27,7 @@ badFrom-thirdAt line from name most at named greatest = rw (at, greatest, named,
 
 -- More than 64 values: some are left behind the first block
 
-module _ {line : List ℕ} {from most : ℕ} {b : Block} (at : BlockAt line from most b) where
+module _ {line : List ℕ} {from most : ℕ} {b : Block} (at : Held line from most b) where
   block-left : ltb 64 (length (valuesFrom line from)) ≡ leb (b .behind) (length line)
   block-left = go _ refl
     where

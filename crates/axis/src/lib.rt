@@ -123,6 +123,7 @@ fn too_many(axes: u64, left: bool) -> bool
     (8 <= axes) | left
 }
 
+// What is handed back of an `axis` line.
 fn axis_line(refusal: u32, name: u64, count: u64) -> AxisLine
     ensures { λ r. ⌜ r ≡ (record { refusal = refusal; name = name; count = count }) ⌝ }
 {

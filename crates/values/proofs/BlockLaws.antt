@@ -1,17 +1,17 @@
 -- Laws of `specs/Block.antt`, and searches among numbers held. No contract cites this file. Assumes nothing.
 use mathlib.Core.Path.{_≡_, refl, sym, ap, _∙_}
-use mathlib.Core.Bool.{Bool, true, false, true≢false, _&&_, _||_, or-assoc, or-false, and-eq-true-iff}
+use mathlib.Core.Bool.{Bool, true, false, true≢false, _&&_, _||_, or-assoc, or-comm, or-false, and-eq-true-iff}
 use mathlib.Core.List.{List, [], _∷_, _++_, append-assoc, append-nil, map}
-use Prim.Native.Nat.{ℕ, _+_, _-_, _<_, _≤_}
+use Prim.Native.Nat.{ℕ, zero, suc, _+_, _-_, _<_, _≤_}
 use native.Mathlib.Numerals.{add-one}
 use native.Mathlib.Omega.{arith}
 use borrow.Author.Tests.{ltb-true, ltb-false, leb-true, leb-false}
 use lib.Dec.{eqb, ltb, leb}
-use lib.ListN.{length, getD, set, take, drop, length-set, length-drop, take-append-drop, drop-of-length-le}
-use lib.Seq.{drop-cons, take-suc-set, length-take-le, take-all, take-at, drop-at}
+use lib.ListN.{length, getD, set, take, drop, replicate, length-drop, length-append, length-map, length-replicate, take-append-drop, drop-of-length-le}
+use lib.Seq.{drop-cons, set-at, length-take-le, take-all, take-at, drop-at}
 use Rattle.lists.specs.Search.{any, anyPair}
 use Rattle.lists.proofs.TestLaws.{or-swap, eqb-comm}
-use Rattle.lists.proofs.SearchLaws.{anyPair-append}
+use Rattle.lists.proofs.SearchLaws.{any-snoc, anyPair-append}
 use Rattle.text.specs.Text.{upTo}
 use Rattle.text.specs.Number.{numberOf, valueOf, isBad}
 use Rattle.text.specs.declared.Number.{Number}
@@ -20,7 +20,8 @@ use Rattle.values.specs.declared.Test.the-variants.{Above}
 use Rattle.tabs.specs.Fields.{fieldValue, noNumber}
 use Rattle.values.specs.Tests.{passes}
 use Rattle.tabs.specs.Fields.{fieldsFrom}
-use Rattle.values.specs.Block.{valuesFrom, BlockAt}
+use Rattle.text.proofs.TextLaws.{upTo-le, part-take}
+use Rattle.values.specs.Block.{valuesFrom, widths, blockOf, BlockAt}
 use Rattle.tabs.proofs.FieldsLaws.{fieldsFrom-cons, fieldsFrom-past}
 use Rattle.values.proofs.TestsLaws.{any-map, any-above}
 
@@ -50,66 +51,173 @@ module _ (l : List ℕ) (i : ℕ) where
   unfolding anyPair
   anyPair-end h = rw (drop-of-length-le l h)
 
--- A block while it is filled: the values read and those left are all the values, and what the fields read tell is told
+-- What is known of a block: the values held are the first ones, those left start behind it, and what its fields tell is told
+
+pub record Held (line : List ℕ) (from most : ℕ) (b : Block) : Type 0 where
+  pub room : b .count ≤ length (b .values)
+  pub held : take (b .count) (b .values) ≡ take 64 (valuesFrom line from)
+  pub left : valuesFrom line (b .behind) ≡ drop 64 (valuesFrom line from)
+  pub onwards : from ≤ length line → from < b .behind
+  pub told : any noNumber (fieldsFrom line from) ≡ (b .bad || any noNumber (fieldsFrom line (b .behind)))
+  pub over : any (passes (Above most)) (fieldsFrom line from) ≡ (b .above || any (passes (Above most)) (fieldsFrom line (b .behind)))
+
+-- fields that are read one after another
+
+any-append : {A : Type 0} (p : A → Bool) (l m : List A) → any p (l ++ m) ≡ (any p l || any p m)
+unfolding any
+any-append p [] m = refl
+any-append p (x ∷ l) m = rw (any-append p l m) (sym (or-assoc (p x) _ _))
+
+map-take : (n : ℕ) (l : List (List ℕ)) → map fieldValue (take n l) ≡ take n (map fieldValue l)
+map-take zero l = refl
+map-take (suc n) [] = refl
+map-take (suc n) (x ∷ l) = ap (λ (r : List ℕ). fieldValue x ∷ r) (map-take n l)
+
+map-drop : (n : ℕ) (l : List (List ℕ)) → map fieldValue (drop n l) ≡ drop n (map fieldValue l)
+map-drop zero l = refl
+map-drop (suc n) [] = refl
+map-drop (suc n) (x ∷ l) = map-drop n l
+
+map-snoc : (l : List (List ℕ)) (f : List ℕ) → map fieldValue (l ++ (f ∷ [])) ≡ map fieldValue l ++ (fieldValue f ∷ [])
+map-snoc [] f = refl
+map-snoc (x ∷ l) f = ap (λ (r : List ℕ). fieldValue x ∷ r) (map-snoc l f)
+
+widths-snoc : (l : List (List ℕ)) (f : List ℕ) → widths (l ++ (f ∷ [])) ≡ widths l + (length f + 1)
+widths-snoc [] f = omega arith
+widths-snoc (x ∷ l) f = omega (arith, widths-snoc l f)
+
+-- A block while it is filled: the fields read and those left are all the fields
 
 pub record Filled (line : List ℕ) (from most : ℕ) (values : List ℕ) (count p : ℕ) (bad above : Bool) : Type 0 where
-  pub size : length values ≡ 64
+  pub read : List (List ℕ)
+  pub number : count ≡ length read
   pub room : count ≤ 64
-  pub split : valuesFrom line from ≡ take count values ++ valuesFrom line p
-  pub passed : from + count ≤ p
-  pub told : any noNumber (fieldsFrom line from) ≡ (bad || any noNumber (fieldsFrom line p))
-  pub over : any (passes (Above most)) (fieldsFrom line from) ≡ (above || any (passes (Above most)) (fieldsFrom line p))
+  pub values-are : values ≡ map fieldValue read ++ replicate (64 - count) 0
+  pub split : fieldsFrom line from ≡ read ++ fieldsFrom line p
+  pub place : p ≡ from + widths read
+  pub told : bad ≡ any noNumber read
+  pub over : above ≡ any (passes (Above most)) read
+
+pub nothing-filled : (line : List ℕ) (from most : ℕ) → Filled line from most (replicate 64 0) 0 from false false
+unfolding any
+nothing-filled line from most =
+    record { read = []; number = refl; room = omega arith; values-are = refl; split = refl; place = omega arith; told = refl; over = refl }
 
 -- there is room, and the place is one of the line
 pub fill-test : (count k p n : ℕ) → (ltb count k && leb p n) ≡ true → (count < k) × (p ≤ n)
 fill-test count k p n e = let t = and-eq-true-iff (ltb count k) (leb p n) .0 e in (ltb-true _ _ (t .0), leb-true _ _ (t .1))
 
 module _ {line : List ℕ} {from most : ℕ} {values : List ℕ} {count p : ℕ} {bad above : Bool} (f : Filled line from most values count p bad above) where
+  pub filled-size : length values ≡ 64
+  filled-size =
+      ap length (f .values-are) ∙ length-append (map fieldValue (f .read)) (replicate (64 - count) 0)
+      ∙ omega (arith, length-map (f .read) fieldValue, f .number, f .room, length-replicate {A = ℕ} (64 - count) 0)
+
+  -- the values after one more
+  values-next : (v : ℕ) → count < 64 → set values count v ≡ (map fieldValue (f .read) ++ (v ∷ [])) ++ replicate (64 - (count + 1)) 0
+  values-next v h =
+      let k : 64 - count ≡ suc (64 - (count + 1)) = omega arith in
+      rw (f .values-are, k, append-assoc (map fieldValue (f .read)) (v ∷ []) (replicate (64 - (count + 1)) 0))
+      (set-at (map fieldValue (f .read)) 0 (replicate (64 - (count + 1)) 0) v count (length-map (f .read) fieldValue ∙ sym (f .number)))
+
   -- with e the end of the field at the place, and n what is read there
   pub filled-next : (e v : ℕ) (n : Number) (t : Bool) → e ≡ p + length (upTo 9 (drop p line)) → p ≤ length line → n ≡ numberOf (take (e - p) (drop p line))
       → v ≡ valueOf n → t ≡ isBad n → count < 64 → Filled line from most (set values count v) (count + 1) (e + 1) (bad || t) (above || ltb most v)
-  unfolding any
   filled-next e v n t is l read at none h =
-      let here : fieldsFrom line p ≡ take (e - p) (drop p line) ∷ fieldsFrom line (e + 1) = fieldsFrom-cons line p e is l in
-      let left : valuesFrom line p ≡ v ∷ valuesFrom line (e + 1) = rw (at, read, here) in
-      let more : take (count + 1) (set values count v) ≡ take count values ++ (v ∷ []) = rw add-one (take-suc-set values count v (omega arith)) in
+      let g : List ℕ = take (e - p) (drop p line) in
+      let here : fieldsFrom line p ≡ g ∷ fieldsFrom line (e + 1) = fieldsFrom-cons line p e is l in
+      let value : v ≡ fieldValue g = at ∙ ap valueOf read in
+      let wide : length g ≡ e - p = length-take-le (e - p) (drop p line) (omega (arith, is, upTo-le 9 (drop p line))) in
       record {
-        size = length-set values count v ∙ f .size;
+        read = f .read ++ (g ∷ []);
+        number = omega (arith, f .number, length-append (f .read) (g ∷ []));
         room = omega arith;
-        split = f .split ∙ rw (left, more, append-assoc);
-        passed = omega arith;
-        told = f .told ∙ rw (here, none, read) (sym (or-assoc bad _ _));
-        over = f .over ∙ rw (here, at, read) (sym (or-assoc above _ _));
+        values-are = values-next v h ∙ rw (map-snoc (f .read) g, value);
+        split = f .split ∙ rw (here, append-assoc (f .read) (g ∷ []) (fieldsFrom line (e + 1)));
+        place = omega (arith, f .place, widths-snoc (f .read) g, wide, is);
+        told = rw (any-snoc noNumber g (f .read), f .told, none, read) (or-comm (any noNumber (f .read)) (noNumber g));
+        over = rw (any-snoc (passes (Above most)) g (f .read), f .over, value) (or-comm (any (passes (Above most)) (f .read)) (ltb most (fieldValue g)));
       }
 
-  held-full : count ≡ 64 → (take count values ≡ take 64 (valuesFrom line from)) × (valuesFrom line p ≡ drop 64 (valuesFrom line from))
-  held-full h =
-      let n : length (take count values) ≡ 64 = length-take-le count values (omega arith) ∙ h in
-      rw (f .split) (sym (take-at (take count values) _ 64 n), sym (drop-at (take count values) _ 64 n))
+  read-full : count ≡ 64 → (f .read ≡ blockOf line from) × (fieldsFrom line p ≡ drop 64 (fieldsFrom line from))
+  read-full h =
+      let n : length (f .read) ≡ 64 = sym (f .number) ∙ h in
+      rw (f .split) (sym (take-at (f .read) (fieldsFrom line p) 64 n), sym (drop-at (f .read) (fieldsFrom line p) 64 n))
 
-  held-last : length line < p → (take count values ≡ take 64 (valuesFrom line from)) × (valuesFrom line p ≡ drop 64 (valuesFrom line from))
-  held-last h =
-      let n : length (take count values) ≤ 64 = omega (arith, length-take-le count values (omega arith)) in
-      rw (f .split, fieldsFrom-past line p h, append-nil) (sym (take-all 64 (take count values) n), sym (drop-of-length-le (take count values) n))
+  read-last : length line < p → (f .read ≡ blockOf line from) × (fieldsFrom line p ≡ drop 64 (fieldsFrom line from))
+  read-last h =
+      let n : length (f .read) ≤ 64 = omega (arith, f .number, f .room) in
+      rw (f .split, fieldsFrom-past line p h, append-nil) (sym (take-all 64 (f .read) n), sym (drop-of-length-le (f .read) n))
 
-  held-end : (a b : Bool) → ltb count 64 ≡ a → leb p (length line) ≡ b → (a && b) ≡ false
-      → (take count values ≡ take 64 (valuesFrom line from)) × (valuesFrom line p ≡ drop 64 (valuesFrom line from)) × (from ≤ length line → from < p)
-  held-end true true s t e = absurd (true≢false e)
-  held-end true false s t e =
-      let h : length line < p = leb-false _ _ t in
-      (held-last h .0, held-last h .1, λ l. omega arith)
-  held-end false b s t e =
-      let h : 64 ≤ count = ltb-false _ _ s in
-      (held-full (omega arith) .0, held-full (omega arith) .1, λ l. omega arith)
+  read-end : (a b : Bool) → ltb count 64 ≡ a → leb p (length line) ≡ b → (a && b) ≡ false
+      → (f .read ≡ blockOf line from) × (fieldsFrom line p ≡ drop 64 (fieldsFrom line from))
+  read-end true true s t e = absurd (true≢false e)
+  read-end true false s t e = read-last (leb-false _ _ t)
+  read-end false b s t e = let h : 64 ≤ count = ltb-false _ _ s in read-full (omega (arith, f .room))
 
   pub filled-end : (ltb count 64 && leb p (length line)) ≡ false → BlockAt line from most (record { values = values; count = count; behind = p; bad = bad; above = above })
   filled-end e =
-      let h = held-end _ _ refl refl e in
-      record { room = omega arith; held = h .0; left = h .1; onwards = h .2; told = f .told; over = f .over }
+      let h = read-end _ _ refl refl e .0 in
+      record {
+        values-are = f .values-are ∙ ap (λ (r : List (List ℕ)). map fieldValue r ++ replicate (64 - count) 0) h;
+        count-is = f .number ∙ ap length h;
+        behind-is = f .place ∙ ap (λ (r : List (List ℕ)). from + widths r) h;
+        bad-is = f .told ∙ ap (any noNumber) h;
+        above-is = f .over ∙ ap (any (passes (Above most))) h;
+      }
+
+-- A block's fields end where the next ones start
+
+-- the field at a place of the line, and those behind it
+field-at : (line : List ℕ) (p : ℕ) → p ≤ length line
+    → fieldsFrom line p ≡ upTo 9 (drop p line) ∷ fieldsFrom line (p + (length (upTo 9 (drop p line)) + 1))
+field-at line p l =
+    let e = p + length (upTo 9 (drop p line)) in
+    let k : e + 1 ≡ p + (length (upTo 9 (drop p line)) + 1) = omega arith in
+    rw (sym k) (fieldsFrom-cons line p e refl l ∙ ap (λ (f : List ℕ). f ∷ fieldsFrom line (e + 1)) (part-take 9 line p e refl))
+
+-- the law below, from that of the next field's place
+widths-next : (line : List ℕ) (n p next : ℕ) → next ≡ p + (length (upTo 9 (drop p line)) + 1)
+    → fieldsFrom line (next + widths (take n (fieldsFrom line next))) ≡ drop n (fieldsFrom line next)
+    → (b : Bool) → leb p (length line) ≡ b → fieldsFrom line (p + widths (take (suc n) (fieldsFrom line p))) ≡ drop (suc n) (fieldsFrom line p)
+widths-next line n p next at ih true t =
+    let here : fieldsFrom line p ≡ upTo 9 (drop p line) ∷ fieldsFrom line next = rw at (field-at line p (leb-true _ _ t)) in
+    let k : p + (length (upTo 9 (drop p line)) + 1 + widths (take n (fieldsFrom line next))) ≡ next + widths (take n (fieldsFrom line next)) = omega (arith, at) in
+    rw (here, k) ih
+widths-next line n p next at ih false t =
+    let h : length line < p = leb-false _ _ t in
+    let e : p + 0 ≡ p = omega arith in
+    rw (fieldsFrom-past line p h, e) (fieldsFrom-past line p h)
+
+fieldsFrom-widths : (line : List ℕ) (n p : ℕ) → fieldsFrom line (p + widths (take n (fieldsFrom line p))) ≡ drop n (fieldsFrom line p)
+fieldsFrom-widths line zero p = let e : p + 0 ≡ p = omega arith in rw e
+fieldsFrom-widths line (suc n) p =
+    widths-next line n p _ refl (fieldsFrom-widths line n (p + (length (upTo 9 (drop p line)) + 1))) (leb p (length line)) refl
+
+-- a block goes on, where there is a field
+widths-pos : (line : List ℕ) (p : ℕ) → p ≤ length line → 0 < widths (take 64 (fieldsFrom line p))
+widths-pos line p l = rw (field-at line p l) (omega arith)
+
+pub held-of : {line : List ℕ} {from most : ℕ} {b : Block} → BlockAt line from most b → Held line from most b
+held-of {line} {from} {most} {b} at =
+    let fields = fieldsFrom line from in
+    let rest : fieldsFrom line (b .behind) ≡ drop 64 fields = rw (at .behind-is) (fieldsFrom-widths line 64 from) in
+    let both : blockOf line from ++ drop 64 fields ≡ fields = take-append-drop 64 fields in
+    let n : length (map fieldValue (blockOf line from)) ≡ b .count = length-map (blockOf line from) fieldValue ∙ sym (at .count-is) in
+    let size : length (b .values) ≡ b .count + (64 - b .count) =
+    ap length (at .values-are) ∙ length-append (map fieldValue (blockOf line from)) (replicate (64 - b .count) 0) ∙ omega (arith, n, length-replicate {A = ℕ} (64 - b .count) 0) in
+    record {
+      room = omega (arith, size);
+      held = rw (at .values-are) (take-at (map fieldValue (blockOf line from)) (replicate (64 - b .count) 0) (b .count) n ∙ map-take 64 fields);
+      left = rw rest (map-drop 64 fields);
+      onwards = λ l. omega (arith, at .behind-is, widths-pos line from l);
+      told = ap (any noNumber) (sym both) ∙ any-append noNumber (blockOf line from) (drop 64 fields) ∙ rw (at .bad-is, rest);
+      over = ap (any (passes (Above most))) (sym both) ∙ any-append (passes (Above most)) (blockOf line from) (drop 64 fields) ∙ rw (at .above-is, rest);
+    }
 
 -- Values that stand twice: in a block, in it and behind it, or behind it
 
-module _ {line : List ℕ} {from most : ℕ} {b : Block} (at : BlockAt line from most b) where
+module _ {line : List ℕ} {from most : ℕ} {b : Block} (at : Held line from most b) where
   anyPair-block : anyPair eqb (valuesFrom line from)
       ≡ (anyPair eqb (take (b .count) (b .values))
       || (any (λ f. any (eqb (fieldValue f)) (take (b .count) (b .values))) (fieldsFrom line (b .behind)) || anyPair eqb (valuesFrom line (b .behind))))
@@ -145,7 +253,7 @@ abbrev pub badBehind : List ℕ → ℕ → Block → Bool
 badBehind line most b =
     any (passes (Above most)) (fieldsFrom line (b .behind)) || any (λ f. any (eqb (fieldValue f)) (take (b .count) (b .values))) (fieldsFrom line (b .behind))
 
-module _ {line : List ℕ} {from most : ℕ} {b : Block} (at : BlockAt line from most b) where
+module _ {line : List ℕ} {from most : ℕ} {b : Block} (at : Held line from most b) where
   badFrom-block : badFrom line from most ≡ (badIn b || (badBehind line most b || anyPair eqb (valuesFrom line (b .behind))))
   badFrom-block =
       let held = take (b .count) (b .values) in

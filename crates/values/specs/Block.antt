@@ -1,9 +1,8 @@
 -- Values of a line in blocks, each read once. The scope knows nothing of it. Assumes nothing.
 use mathlib.Core.Path.{_≡_}
-use mathlib.Core.Bool.{_||_}
-use mathlib.Core.List.{List, map}
-use Prim.Native.Nat.{ℕ, _<_, _≤_}
-use lib.ListN.{length, take, drop}
+use mathlib.Core.List.{List, [], _∷_, _++_, map}
+use Prim.Native.Nat.{ℕ, _+_, _-_}
+use lib.ListN.{length, take, replicate}
 use Rattle.lists.specs.Search.{any}
 use Rattle.values.specs.declared.Block.{Block}
 use Rattle.values.specs.declared.Test.the-variants.{Above}
@@ -15,12 +14,20 @@ use Rattle.tabs.specs.Fields.{fieldsFrom}
 abbrev pub valuesFrom : List ℕ → ℕ → List ℕ
 valuesFrom line p = map fieldValue (fieldsFrom line p)
 
--- a block has the first 64 values from a place on, and the others start behind it; a field that is no number, or a value above the
--- greatest that is good, is told of or stands behind it
+-- how far some fields reach, each with the tab or the end behind it
+abbrev pub widths : List (List ℕ) → ℕ
+widths [] = 0
+widths (f ∷ fs) = length f + 1 + widths fs
+
+-- the first 64 fields from a place on
+abbrev pub blockOf : List ℕ → ℕ → List (List ℕ)
+blockOf line from = take 64 (fieldsFrom line from)
+
+-- a block has the first 64 values from a place on, and zeros behind them; where the next field starts; is one of its fields no number; is
+-- one of its values above the greatest that is good?
 pub record BlockAt (line : List ℕ) (from most : ℕ) (b : Block) : Type 0 where
-  pub room : b .count ≤ length (b .values)
-  pub held : take (b .count) (b .values) ≡ take 64 (valuesFrom line from)
-  pub left : valuesFrom line (b .behind) ≡ drop 64 (valuesFrom line from)
-  pub onwards : from ≤ length line → from < b .behind
-  pub told : any noNumber (fieldsFrom line from) ≡ (b .bad || any noNumber (fieldsFrom line (b .behind)))
-  pub over : any (passes (Above most)) (fieldsFrom line from) ≡ (b .above || any (passes (Above most)) (fieldsFrom line (b .behind)))
+  pub values-are : b .values ≡ map fieldValue (blockOf line from) ++ replicate (64 - b .count) 0
+  pub count-is : b .count ≡ length (blockOf line from)
+  pub behind-is : b .behind ≡ from + widths (blockOf line from)
+  pub bad-is : b .bad ≡ any noNumber (blockOf line from)
+  pub above-is : b .above ≡ any (passes (Above most)) (blockOf line from)

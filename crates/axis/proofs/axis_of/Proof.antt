@@ -12,6 +12,7 @@ use Rattle.line.specs.Line.{nameOf}
 use Rattle.axis.specs.Axis.{valuesOf, badForm, badName, badValues, tooMany, refusal, axisLine}
 use Rattle.tabs.proofs.FieldsLaws.{fieldsFrom-thirdAt}
 use Rattle.axis.proofs.AxisLaws.{axisLine-is}
+use Rattle.values.proofs.BlockLaws.{held-of}
 use Rattle.axis.proofs.ValuesLaws.{badFrom-thirdAt, tooMany-thirdAt, count-thirdAt}
 use Rattle.axis.proofs.axis_of.Statement.{statement}
 use Rattle.axis.proofs.axis_of.Tie as tie
@@ -20,7 +21,7 @@ bad-form-requires : tie.Need-bad-form-requires
 bad-form-requires c κs =
     let a = c .before in
     let t = a .before .before .before .before in
-    rw (a .any-field .ensures, ← fieldsFrom-thirdAt (now (t .before .before .args .line)), ← t .third-at .ensures) (sym (a .before .block-at .ensures .told))
+    rw (a .any-field .ensures, ← fieldsFrom-thirdAt (now (t .before .before .args .line)), ← t .third-at .ensures) (sym (held-of (a .before .block-at .ensures) .told))
 
 -- the line's fields, which names came, and how many axes there are
 abbrev fields : tie.After-bad-form → List (List ℕ)
@@ -38,7 +39,7 @@ told : (d : tie.After-bad-form) {number : ℕ} {r : AxisLine}
     → number ≡ refusal (seen d) (axes d) (fields d) → r ≡ axisLine (seen d) (axes d) (fields d)
 told d is lowest =
     let b = d .before .before .before in
-    is ∙ axisLine-is (seen d) (axes d) (fields d) lowest (b .before .before .name-of .ensures) (count-thirdAt (b .block-at .ensures) (b .before .before .before .third-at .ensures))
+    is ∙ axisLine-is (seen d) (axes d) (fields d) lowest (b .before .before .name-of .ensures) (count-thirdAt (held-of (b .block-at .ensures)) (b .before .before .before .third-at .ensures))
 
 -- the tests of the form, the name and the values, and how many there are
 form : (d : tie.After-bad-form) → badForm (fields d) ≡ d .bad-form .result
@@ -60,7 +61,7 @@ many : (c : tie.After-too-many) → let d = c .before .before .before .before .b
 many c =
     let d = c .before .before .before .before .before .before .before in
     let b = d .before .before .before in
-    tooMany-thirdAt (b .block-at .ensures) (axes d) (b .before .before .before .third-at .ensures) ∙ sym (c .too-many .ensures)
+    tooMany-thirdAt (held-of (b .block-at .ensures)) (axes d) (b .before .before .before .third-at .ensures) ∙ sym (c .too-many .ensures)
 
 returns : tie.Need-returns
 unfolding refusal

@@ -9,7 +9,7 @@ use lib.Seq.{length-take-le}
 use Rattle.lists.specs.Search.{anyPair}
 use Rattle.values.specs.Block.{valuesFrom}
 use Rattle.tabs.proofs.FieldsLaws.{fieldsFrom-past}
-use Rattle.values.proofs.BlockLaws.{block-same, block-among, block-next}
+use Rattle.values.proofs.BlockLaws.{held-of, block-same, block-among, block-next}
 use Rattle.values.proofs.any_twice.Statement.{statement}
 use Rattle.values.proofs.any_twice.Tie as tie
 
@@ -26,10 +26,10 @@ block-at-requires : tie.Need-block-at-requires Inv-loop μ-loop
 block-at-requires c κs = search needs
 
 array-share-prefix-values : tie.Need-array-share-prefix-values Inv-loop μ-loop
-array-share-prefix-values c = c .before .block-at .ensures .room
+array-share-prefix-values c = held-of (c .before .block-at .ensures) .room
 
 slice-aggregate-any-same : tie.Need-slice-aggregate-any-same Inv-loop μ-loop
-slice-aggregate-any-same c = sym (length-take-le _ _ (c .before .before .block-at .ensures .room))
+slice-aggregate-any-same c = sym (length-take-le _ _ (held-of (c .before .before .block-at .ensures) .room))
 
 any-same-requires : tie.Need-any-same-requires Inv-loop μ-loop
 any-same-requires c κs = search needs
@@ -37,13 +37,13 @@ any-same-requires c κs = search needs
 returns : tie.Need-returns Inv-loop μ-loop
 returns c =
     let b = c .before .before .before .before in
-    sym (b .before .before .loop .inv ∙ block-same (b .block-at .ensures) (sym (c .before .any-same .ensures) ∙ c .if1 .taken))
+    sym (b .before .before .loop .inv ∙ block-same (held-of (b .block-at .ensures)) (sym (c .before .any-same .ensures) ∙ c .if1 .taken))
 
 array-share-prefix-values-2 : tie.Need-array-share-prefix-values-2 Inv-loop μ-loop
-array-share-prefix-values-2 c = c .before .before .before .before .block-at .ensures .room
+array-share-prefix-values-2 c = held-of (c .before .before .before .before .block-at .ensures) .room
 
 slice-aggregate-any-among : tie.Need-slice-aggregate-any-among Inv-loop μ-loop
-slice-aggregate-any-among c = sym (length-take-le _ _ (c .before .before .before .before .before .block-at .ensures .room))
+slice-aggregate-any-among c = sym (length-take-le _ _ (held-of (c .before .before .before .before .before .block-at .ensures) .room))
 
 any-among-requires : tie.Need-any-among-requires Inv-loop μ-loop
 any-among-requires c κs = search needs
@@ -52,18 +52,18 @@ returns-2 : tie.Need-returns-2 Inv-loop μ-loop
 returns-2 c =
     let s = c .before .before .before in
     let b = s .before .before .before .before in
-    sym (b .before .before .loop .inv ∙ block-among (b .block-at .ensures) (sym (s .before .any-same .ensures) ∙ s .if1 .left) (sym (c .before .any-among .ensures) ∙ c .if2 .taken))
+    sym (b .before .before .loop .inv ∙ block-among (held-of (b .block-at .ensures)) (sym (s .before .any-same .ensures) ∙ s .if1 .left) (sym (c .before .any-among .ensures) ∙ c .if2 .taken))
 
 loop-less : tie.Need-loop-less Inv-loop μ-loop
 loop-less c =
     let b = c .before .before .before .before .before .before .before in
-    omega (arith, b .block-at .ensures .onwards (b .before .loop-test .taken), b .before .loop-test .taken)
+    omega (arith, held-of (b .block-at .ensures) .onwards (b .before .loop-test .taken), b .before .loop-test .taken)
 
 loop-again : tie.Need-loop-again Inv-loop μ-loop
 loop-again c =
     let s = c .before .before .before in
     let b = s .before .before .before .before in
-    b .before .before .loop .inv ∙ block-next (b .block-at .ensures) (sym (s .before .any-same .ensures) ∙ s .if1 .left) (sym (c .before .any-among .ensures) ∙ c .if2 .left)
+    b .before .before .loop .inv ∙ block-next (held-of (b .block-at .ensures)) (sym (s .before .any-same .ensures) ∙ s .if1 .left) (sym (c .before .any-among .ensures) ∙ c .if2 .left)
 
 returns-3 : tie.Need-returns-3 Inv-loop μ-loop
 unfolding anyPair

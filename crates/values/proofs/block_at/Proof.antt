@@ -5,7 +5,7 @@ use native.Mathlib.Omega.{arith}
 use borrow.Author.Needs.{needs}
 use lib.ListN.{length}
 use Rattle.text.proofs.TextLaws.{part-end-le}
-use Rattle.values.proofs.BlockLaws.{Filled, fill-test, filled-next, filled-end}
+use Rattle.values.proofs.BlockLaws.{Filled, nothing-filled, fill-test, filled-next, filled-end}
 use Rattle.values.proofs.block_at.Statement.{statement}
 use Rattle.values.proofs.block_at.Tie as tie
 
@@ -16,7 +16,7 @@ abbrev μ-loop : tie.MeasureT-loop
 μ-loop line from most values₀ count₀ p₀ bad₀ above₀ values count p bad above = length line + 1 - p
 
 loop-holds : tie.Need-loop-holds Inv-loop μ-loop
-loop-holds c = record { size = refl; room = omega arith; split = refl; passed = omega arith; told = refl; over = refl }
+loop-holds c = nothing-filled _ _ _
 
 tested : (c : tie.In-loop Inv-loop μ-loop) → (c .before .loop .count < 64) × (c .before .loop .p ≤ length (c .before .before .before .args .line .now))
 tested c =
