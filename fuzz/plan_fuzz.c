@@ -72,18 +72,20 @@ static size_t model_table(uint64_t number[BH_TABLE])
     return at;
 }
 
-/* A refused plan has 0 for all results but the line. */
+/* A refused plan has 0 for all results but the line, and leaves the table as lent. */
 static void compare_reading(const uint8_t *data, size_t size)
 {
     uint64_t expected_table[BH_TABLE];
     uint64_t expected[BH_PLAN_RESULTS] = { model.line, 0, 0, 0, 0 };
+    for (size_t i = 0; i < BH_TABLE; i++)
+        expected_table[i] = GUARD_LONG;
     if (model.answer == DONE) {
+        model_table(expected_table);
         expected[1] = model.words;
         expected[2] = (uint64_t)model.op;
         expected[3] = (uint64_t)model.axes;
         expected[4] = points;
     }
-    model_table(expected_table);
     unsigned char *text = lend(&text_room, size);
     uint64_t *table = lend(&table_room, sizeof expected_table);
     uint64_t *out = lend(&out_room, sizeof expected);
@@ -284,6 +286,7 @@ static void compare_lines(size_t cut_by)
     size_t at = append_lines(heading, 0, cut, DONE);
     compare_listing("the listing in parts", append_lines(at, cut, points - cut, DONE));
     append_lines(heading, points, 1, BH_NO_POINT);
+    append_lines(heading, points + 1, 0, DONE);
     if (points < MOST_POINTS)
         append_lines(heading, 0, points + 1, BH_NO_POINT);
 }
