@@ -32,7 +32,8 @@ static bool size_is_bad(uint32_t size)
     return size < 1 || size > 32;
 }
 
-/* Refusal 17: "some ... field bit that would be ... moved ... has an address of 16 x words or more". */
+/* Refusal 17: "some ... field bit that would be ... moved ... has an address of 16 x words or
+   more". */
 static bool field_is_outside(struct memory m, uint32_t address, uint32_t size)
 {
     for (uint32_t i = 0; i < size; i++) {
@@ -112,7 +113,8 @@ char field_case(uint32_t address, uint32_t size)
     return '?';
 }
 
-/* "A 1/1; B 1/2; C 2/2; D 2/3; E 2/3; F 2/4; G 3/5", and "a cycle or state count [checks] only 18". */
+/* "A 1/1; B 1/2; C 2/2; D 2/3; E 2/3; F 2/4; G 3/5", and "a cycle or state count [checks] only
+   18". */
 struct cycles_answer field_cycles(uint32_t address, uint32_t size)
 {
     struct cycles_answer r = { DONE, 0, 0 };

@@ -13,7 +13,8 @@ static int refusal_by_control(struct memory m, const struct settings *s)
     return DONE;
 }
 
-/* Refusals 10 to 13 for an XY pixel; "The used pitches: DPTCH for FILL, PIXBLT, DRAV and XY PIXT". */
+/* Refusals 10 to 13 for an XY pixel; "The used pitches: DPTCH for FILL, PIXBLT, DRAV and XY
+   PIXT". */
 static int refusal_of_xy(struct memory m, const struct settings *s)
 {
     int answer = refusal_by_control(m, s);

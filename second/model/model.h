@@ -271,7 +271,6 @@ struct point_answer {
 void plan_read(struct plan *p, const unsigned char *text, size_t length);
 uint64_t plan_count(const struct plan *p);
 struct point_answer plan_point(const struct plan *p, uint64_t number);
-bool plan_take_axes(struct plan *p, const uint64_t *table, size_t length, uint64_t axes);
 void plan_listing(const unsigned char *text, size_t length, FILE *out);
 
 #endif

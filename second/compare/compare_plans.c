@@ -1,5 +1,5 @@
-/* Compares plans: their reading, their points and their listings, through the C interface and by the
-   model. A plan's listing is compared byte for byte with the model's; the library makes it in
+/* Compares plans: their reading, their points and their listings, through the C interface and by
+   the model. A plan's listing is compared byte for byte with the model's; the library makes it in
    batches of any size. A plan of very many points is compared at some of them. */
 #define _POSIX_C_SOURCE 200809L
 
@@ -17,8 +17,8 @@ static uint64_t points;
 static uint64_t lines_by_answer[25];
 static uint64_t experiments_by_answer[25];
 
-/* Tables that were tried by themselves: those that hold axes, those that don't, those that don't for
-   a value too large for its name; and runs that ask for no point. */
+/* Tables that were tried by themselves: those that hold axes, those that don't, those that don't
+   for a value too large for its name; and runs that ask for no point. */
 static uint64_t tables_held, tables_not_held, tables_too_large, runs_of_none;
 
 /* ---- Reporting ---- */
@@ -503,6 +503,36 @@ static void compare_table_run(uint64_t axes, uint64_t first, uint64_t count)
     free(lines);
 }
 
+/* A table has of each axis the number of its name, how many values it has, and these. It holds axes
+   of a plan where there are at most 8 of them, each with one of the fourteen names and 1 to 64
+   values that are all there, none of them too large for the name. This is the library's rule, not
+   the scope's. Gives the model the first `axes` axes of the table; false where it doesn't hold
+   them: then it has no points. */
+static bool take_axes(uint64_t axes)
+{
+    size_t at = 0;
+    model.axes = 0;
+    if (axes > MOST_AXES)
+        return false;
+    for (uint64_t i = 0; i < axes; i++) {
+        struct axis *a = &model.axis[i];
+        if (table_lent - at < 2 || table[at] >= BH_NAMES || table[at + 1] < 1
+            || table[at + 1] > MOST_VALUES || table[at + 1] > table_lent - at - 2)
+            return false;
+        a->name = (int)table[at];
+        a->length = (int)table[at + 1];
+        at = at + 2;
+        for (int k = 0; k < a->length; k++) {
+            a->value[k] = table[at + (size_t)k];
+            if (a->value[k] > most_of((uint64_t)a->name))
+                return false;
+        }
+        at = at + (size_t)a->length;
+        model.axes = model.axes + 1;
+    }
+    return true;
+}
+
 /* The plan's table changed: the points that the model finds in it, and none where it holds no
    axes. The plan is as before then. */
 static void compare_table(void)
@@ -514,7 +544,7 @@ static void compare_table(void)
     memcpy(kept_table, table, sizeof table);
     table_lent = BH_TABLE;
     spoil_table(&axes);
-    bool held = plan_take_axes(&model, table, table_lent, axes);
+    bool held = take_axes(axes);
     points = held ? plan_count(&model) : 0;
     *(held ? &tables_held : &tables_not_held) += 1;
     compare_point_of(axes, 0, BH_NAMES);
@@ -662,7 +692,8 @@ void compare_plans(uint64_t count)
         compare_plan();
     }
     int missing = print_plan_answers(), other = print_plan_features();
-    printf("bh_lines: %llu answered 0, %llu 9, %llu 10, %llu 24; bh_experiment: %llu 0, %llu 9, %llu 24\n",
+    printf("bh_lines: %llu answered 0, %llu 9, %llu 10, %llu 24; "
+           "bh_experiment: %llu 0, %llu 9, %llu 24\n",
            (unsigned long long)lines_by_answer[DONE], (unsigned long long)lines_by_answer[BH_SHORT],
            (unsigned long long)lines_by_answer[BH_NO_MEMORY],
            (unsigned long long)lines_by_answer[REFUSED_POINT],

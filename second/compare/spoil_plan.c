@@ -1,5 +1,5 @@
-/* Wrong plans: what is made wrong in the lines of a plan, or in the bytes of its text. Not everything
-   here must be refused. */
+/* Wrong plans: what is made wrong in the lines of a plan, or in the bytes of its text. Not
+   everything here must be refused. */
 #include "compare_plans.h"
 
 #include <stdio.h>
@@ -61,9 +61,10 @@ static void remove_line(struct sketch *s, int place)
 
 static void wrong_word(struct sketch *s)
 {
-    static const char *const word[18] = { "Memory", "memory ", " memory", "mem",    "memoryy", "",
-                                          "MEMORY", "draw",    "Draw",    "drawn",  "draw ",   "axis",
-                                          "axes",   "Axis",    " axis",   "axis\r", "#axis",   " " };
+    static const char *const word[18] = {
+        "Memory", "memory ", " memory", "mem",  "memoryy", "",     "MEMORY", "draw",   "Draw",
+        "drawn",  "draw ",   "axis",    "axes", "Axis",    " axis", "axis\r", "#axis", " "
+    };
     struct sketch_line *l = some_line(s);
     set_field(l, 0, word[random_below(18)]);
 }
@@ -71,9 +72,10 @@ static void wrong_word(struct sketch *s)
 static void wrong_drawing(struct sketch *s)
 {
     static const char *const name[20] = {
-        "FILL",       "FILL  L",     "FILL l",       "fill l",       "FILL L ", " FILL L", "FILL LX",
-        "FILL X",     "PIXBLT",      "PIXBLT LL",    "PIXBLT L, L",  "PIXBLT L,B", "PIXBLT B,B",
-        "PIXBLT L,L,L", "PIXBLT XY XY", "PIXBLT B,XYZ", "PIXBLT XY,B", "PIXT",   "DRAV",    ""
+        "FILL",        "FILL  L",      "FILL l",       "fill l",       "FILL L ",
+        " FILL L",     "FILL LX",      "FILL X",       "PIXBLT",       "PIXBLT LL",
+        "PIXBLT L, L", "PIXBLT L,B",   "PIXBLT B,B",   "PIXBLT L,L,L", "PIXBLT XY XY",
+        "PIXBLT B,XYZ", "PIXBLT XY,B", "PIXT",         "DRAV",         ""
     };
     if (s->lines > 1 && s->line[1].fields > 1)
         set_field(&s->line[1], 1, name[random_below(20)]);

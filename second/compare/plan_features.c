@@ -213,7 +213,8 @@ static int print_combinations(void)
         missing += count == 0;
         least = count < least ? count : least;
     }
-    printf("each PP with each pixel size drew at %llu points at least\n", (unsigned long long)least);
+    printf("each PP with each pixel size drew at %llu points at least\n",
+           (unsigned long long)least);
     return missing;
 }
 

@@ -340,35 +340,6 @@ struct point_answer plan_point(const struct plan *p, uint64_t number)
     return r;
 }
 
-/* A table has of each axis the number of its name, how many values it has, and these. It holds axes
-   of a plan where there are at most 8 of them, each with one of the fourteen names and 1 to 64
-   values that are all there, none of them too large for the name. Takes the first `axes` axes of a
-   table; false where it doesn't hold them: then it has no points. */
-bool plan_take_axes(struct plan *p, const uint64_t *table, size_t length, uint64_t axes)
-{
-    size_t at = 0;
-    p->axes = 0;
-    if (axes > MOST_AXES)
-        return false;
-    for (uint64_t i = 0; i < axes; i++) {
-        struct axis *a = &p->axis[i];
-        if (length - at < 2 || table[at] >= NAMES || table[at + 1] < 1
-            || table[at + 1] > MOST_VALUES || table[at + 1] > length - at - 2)
-            return false;
-        a->name = (int)table[at];
-        a->length = (int)table[at + 1];
-        at = at + 2;
-        for (int k = 0; k < a->length; k++) {
-            a->value[k] = table[at + (size_t)k];
-            if (a->value[k] > name_most[a->name])
-                return false;
-        }
-        at = at + (size_t)a->length;
-        p->axes = p->axes + 1;
-    }
-    return true;
-}
-
 /* ---- Runs ---- */
 
 /* One point: the image, the drawing over it ("V starts at 0", whole) and its line. "`changed`
