@@ -197,7 +197,8 @@ static uint32_t converted(uint32_t xy, uint32_t psize, uint32_t pitch, uint32_t 
     return (x | y) + offset;
 }
 
-/* Every X from 0 to `last`, in rows that are spread over the memory. No other bit may be written. */
+/* Every X from 0 to `last`, in rows that are spread over the memory. No other bit may be
+   written. */
 static const struct conversion {
     struct figure figure;
     uint32_t psize, pitch, offset, last;
@@ -225,7 +226,8 @@ static void run_conversions(void)
             rows = 32768;
         for (uint32_t y = 0; y < rows; y += 1 + rows / 37) {
             for (uint32_t x = 0; x <= c->last; x++) {
-                found += start_of(&s, XY(x, y)) == converted(XY(x, y), c->psize, c->pitch, c->offset);
+                found += start_of(&s, XY(x, y))
+                         == converted(XY(x, y), c->psize, c->pitch, c->offset);
                 all++;
             }
         }
@@ -269,7 +271,8 @@ static void run_linear_examples(void)
     const struct figure destination = { "004", "5.1.4", "DADDR >00010AFC", "linear value >10AFC",
                                         SAME };
     const struct settings from = { .SADDR = 0x00010AFC, .DYDX = XY(1, 1), .PSIZE = 4 };
-    const struct settings to = { .DADDR = 0x00010AFC, .DYDX = XY(1, 1), .COLOR1 = 0x9999, .PSIZE = 4 };
+    const struct settings to = { .DADDR = 0x00010AFC, .DYDX = XY(1, 1), .COLOR1 = 0x9999,
+                                 .PSIZE = 4 };
     const uint64_t printed = 9;
     put_pixel(memory, 0x10AFC, 4, 9);
     draw(BH_PIXBLT_L_L, &from, 0);
@@ -424,12 +427,13 @@ static void run_pitch_rows(void)
         uint64_t got[3];
         for (int k = 0; k < 3; k++)
             got[k] = allowed(&pitch_rows[i], pitches[k]);
-        settle(&pitch_rows[i].figure, "pitches 1000h, AD0h, 10AFCh allowed", 3, pitch_rows[i].printed,
-               pitch_rows[i].scope, got);
+        settle(&pitch_rows[i].figure, "pitches 1000h, AD0h, 10AFCh allowed", 3,
+               pitch_rows[i].printed, pitch_rows[i].scope, got);
     }
 }
 
-/* "The product of the array width DX and the pixel size must be less than or equal to the pitch." */
+/* "The product of the array width DX and the pixel size must be less than or equal to the
+   pitch." */
 static void run_wide_row(void)
 {
     const struct figure figure = { "003", "4.4", "DX=5 at four bits, pitch 16",

@@ -42,23 +42,26 @@ static void run_parts(void)
 
 /* ---- Loops ---- */
 
-/* A loop of words from address 0 on, after a reset; the last `disabled` words are fetched with CD=1.
-   The numbers are of its last pass: hits, misses, segment misses among them, fetches with the cache
-   disabled. */
+/* A loop of words from address 0 on, after a reset; the last `disabled` words are fetched with
+   CD=1. The numbers are of its last pass: hits, misses, segment misses among them, fetches with the
+   cache disabled. */
 static const struct loop {
     struct figure figure;
     uint32_t words, disabled, passes;
     uint64_t printed[4];
 } loops[] = {
-    { { "004", "5.4.2", "first fetch after a reset", "all P flags in the cache are set to 0", SAME },
+    { { "004", "5.4.2", "first fetch after a reset", "all P flags in the cache are set to 0",
+        SAME },
       1, 0, 1, { 0, 1, NOT_PRINTED, 0 } },
-    { { "004", "5.4.1", "128 words, first pass", "four segments, eight subsegments, four words", SAME },
+    { { "004", "5.4.1", "128 words, first pass", "four segments, eight subsegments, four words",
+        SAME },
       128, 0, 1, { 96, 32, 4, 0 } },
     { { "004", "5.4.1", "128 words, second pass", "up to 128 16-bit instruction words", SAME },
       128, 0, 2, { 128, 0, 0, 0 } },
     { { "004", "5.4.6", "a loop of 256 bytes and a subsegment, third pass", "thrashing", WORKED },
       132, 0, 3, { 99, 33, 5, 0 } },
-    { { "004", "5.4.6", "the same, CD=1 in that subsegment", "prevent .. from being replaced", WORKED },
+    { { "004", "5.4.6", "the same, CD=1 in that subsegment", "prevent .. from being replaced",
+        WORKED },
       132, 4, 3, { 128, 0, 0, 4 } },
     { { "004", "5.4.7", "256 words, each used once", "a cache miss every fourth word", SAME },
       256, 0, 1, { 192, 64, 8, 0 } },
@@ -80,17 +83,18 @@ static void run_loops(void)
                 got[3] += kind == BH_DISABLED;
             }
         }
-        settle(&loops[i].figure, "hits, misses, segment misses, disabled", 4, loops[i].printed, NULL,
-               got);
+        settle(&loops[i].figure, "hits, misses, segment misses, disabled", 4, loops[i].printed,
+               NULL, got);
     }
 }
 
 /* ---- 5.4.2 and 5.4.3: what a fetch does ---- */
 
-/* First the four segments are loaded, by fetches at 0, 64, 512, 1024 and 1536 after a reset: segment
-   0 has two subsegments, the others one, and segment 0 is the least recently used (that the numbers
-   0 to 3 stand in this order after a reset is the scope's reading). Then the fetch. Numbers: its
-   kind, four start addresses, flags of four segments, and the order, the least recent first. */
+/* First the four segments are loaded, by fetches at 0, 64, 512, 1024 and 1536 after a reset:
+   segment 0 has two subsegments, the others one, and segment 0 is the least recently used (that the
+   numbers 0 to 3 stand in this order after a reset is the scope's reading). Then the fetch.
+   Numbers: its kind, four start addresses, flags of four segments, and the order, the least recent
+   first. */
 enum { FETCH_NUMBERS = 1 + BH_CACHE_NUMBERS };
 
 static const struct step {
@@ -99,7 +103,8 @@ static const struct step {
     uint32_t address, control;
     uint64_t printed[FETCH_NUMBERS];
 } steps[] = {
-    { { "004", "5.4.2", "the cache after a reset", "all P flags .. 0, in numerical order (0-3)", SAME },
+    { { "004", "5.4.2", "the cache after a reset", "all P flags .. 0, in numerical order (0-3)",
+        SAME },
       false, 0, CD,
       { BH_DISABLED, NOT_PRINTED, NOT_PRINTED, NOT_PRINTED, NOT_PRINTED, 0, 0, 0, 0, 0, 1, 2, 3 } },
     { { "004", "5.4.3", "cache hit in segment 1", "moved to the top of the LRU stack", WORKED },
@@ -107,9 +112,11 @@ static const struct step {
     { { "004", "5.4.3", "subsegment miss in segment 2", "top of the stack; P flag is set", WORKED },
       true, 1024 + 3 * 64, 0, { BH_SUBSEGMENT_MISS, 0, 1, 2, 3, 3, 1, 9, 1, 0, 1, 3, 2 } },
     { { "004", "5.4.3", "segment miss at >12345670",
-        "least recently used; flags cleared; 23 MSBs; P flag set; from the bottom to the top", WORKED },
+        "least recently used; flags cleared; 23 MSBs; P flag set; from the bottom to the top",
+        WORKED },
       true, 0x12345670, 0,
-      { BH_SEGMENT_MISS, 0x12345670 >> 9, 1, 2, 3, 1 << (0x12345670 >> 6 & 7), 1, 1, 1, 1, 2, 3, 0 } },
+      { BH_SEGMENT_MISS, 0x12345670 >> 9, 1, 2, 3,
+        1 << (0x12345670 >> 6 & 7), 1, 1, 1, 1, 2, 3, 0 } },
     { { "004", "5.4.6", "fetch of a word in the cache, CD=1", "protected from change", WORKED },
       true, 512, CD, { BH_DISABLED, 0, 1, 2, 3, 3, 1, 1, 1, 0, 1, 2, 3 } },
     { { "004", "5.4.6", "fetch of a word not in the cache, CD=1", "protected from change", WORKED },
@@ -127,8 +134,8 @@ static void run_steps(void)
         got[0] = fetch(state, steps[i].address, steps[i].control);
         for (size_t k = 0; k < BH_CACHE_NUMBERS; k++)
             got[1 + k] = state[k];
-        settle(&steps[i].figure, "kind, starts, flags, order", FETCH_NUMBERS, steps[i].printed, NULL,
-               got);
+        settle(&steps[i].figure, "kind, starts, flags, order", FETCH_NUMBERS, steps[i].printed,
+               NULL, got);
     }
 }
 

@@ -27,7 +27,8 @@ uint32_t pixel_at(const uint16_t *words, uint32_t address, uint32_t psize)
 void put_pixel(uint16_t *words, uint32_t address, uint32_t psize, uint32_t value)
 {
     uint32_t mask = ((1u << psize) - 1) << address % 16;
-    words[address / 16] = (uint16_t)((words[address / 16] & ~mask) | (value << address % 16 & mask));
+    words[address / 16] =
+        (uint16_t)((words[address / 16] & ~mask) | (value << address % 16 & mask));
 }
 
 uint32_t bits_of(const char *row, char letter)
@@ -52,8 +53,8 @@ struct drawing draw_slice(uint32_t operation, const struct settings *settings, u
     uint32_t number[BH_SETTINGS];
     uint64_t out[BH_DRAW_RESULTS] = { 0 };
     list_settings(settings, number);
-    uint32_t answer = bh_draw(memory, MEMORY_WORDS, operation, number, BH_SETTINGS, place, v, budget,
-                              out, BH_DRAW_RESULTS);
+    uint32_t answer = bh_draw(memory, MEMORY_WORDS, operation, number, BH_SETTINGS, place, v,
+                              budget, out, BH_DRAW_RESULTS);
     struct drawing r = { answer, out[0], out[1], out[2], out[3], out[4], out[5], out[6] };
     return r;
 }

@@ -29,7 +29,8 @@ static const struct array_row {
     struct settings settings;
     uint64_t printed[ARRAY_NUMBERS], scope[ARRAY_NUMBERS];
 } array_rows[] = {
-    { { "000", "13.3.3", "example 13-1, FILL XY, replace", "795 pixels, L=15, M=53, N=14, C", SAME },
+    { { "000", "13.3.3", "example 13-1, FILL XY, replace", "795 pixels, L=15, M=53, N=14, C",
+        SAME },
       BH_FILL_XY, { FILL_XY, .CONTROL = CONTROL_OF(0, 3, 0), .COLOR1 = 0xFFFF },
       { 0, 795, 15, 53, 14, 0, 1 }, { 0 } },
     { { "000", "13.3.3", "example 13-2, FILL XY, MAX", "795 pixels, L=15, M=53, N=14, C", SAME },
@@ -179,7 +180,8 @@ static void run_dimensions(void)
 /* "SPTCH = >00AD0 (X extent = 2768 pixels)": the bits from one source row to the next. */
 static void run_font_pitch(void)
 {
-    const struct figure figure = { "000", "13.5.3", "SPTCH >00AD0", "X extent = 2768 pixels", SAME };
+    const struct figure figure = { "000", "13.5.3", "SPTCH >00AD0", "X extent = 2768 pixels",
+                                   SAME };
     const struct settings s = { PIXBLT_B_XY };
     const uint64_t printed = 2768;
     struct drawing r = draw(BH_PIXBLT_B_XY, &s, 0);
@@ -197,10 +199,12 @@ static const struct registers {
     uint64_t budget;
     uint64_t printed[2], scope[2];
 } registers[] = {
-    { { "004", "5.1.4", "SADDR and DADDR after example 13-6", "row following the last row", WORKED },
+    { { "004", "5.1.4", "SADDR and DADDR after example 13-6", "row following the last row",
+        WORKED },
       BH_PIXBLT_XY_L, { PIXBLT_XY_L }, UINT64_MAX,
       { 0x40000 + (58 + 15) * 0x800 + 230 * 4, 0x30E8 + 15 * 0x800 }, { 0 } },
-    { { "004", "5.1.4", "SADDR and DADDR after example 13-7", "row following the last row", WORKED },
+    { { "004", "5.1.4", "SADDR and DADDR after example 13-7", "row following the last row",
+        WORKED },
       BH_PIXBLT_B_XY, { PIXBLT_B_XY }, UINT64_MAX,
       { 0x3E2E8 + 10 * 0xAD0, 0x40000 + (50 + 10) * 0x800 + 267 * 8 }, { 0 } },
     { { "004", "5.1.4", "SADDR and DADDR of PIXBLT L,L, interrupted after two words of four",
@@ -231,9 +235,11 @@ static const struct corner {
     { { "002", "7.2.2", "figure 7-2, PBH=0, PBV=0", "upper left first, lower right last", WORKED },
       0, { 0, 0, 0, 2, 1 }, { 0 } },
     { { "002", "7.2.2", "figure 7-2, PBH=1, PBV=0", "right to left", "1.18" },
-      PBH, { 0, 2, 0, 0, 1 }, { BH_BAD_CONTROL, NOT_PRINTED, NOT_PRINTED, NOT_PRINTED, NOT_PRINTED } },
+      PBH, { 0, 2, 0, 0, 1 },
+      { BH_BAD_CONTROL, NOT_PRINTED, NOT_PRINTED, NOT_PRINTED, NOT_PRINTED } },
     { { "002", "7.2.2", "figure 7-2, PBH=0, PBV=1", "bottom to top", "1.18" },
-      PBV, { 0, 0, 1, 2, 0 }, { BH_BAD_CONTROL, NOT_PRINTED, NOT_PRINTED, NOT_PRINTED, NOT_PRINTED } },
+      PBV, { 0, 0, 1, 2, 0 },
+      { BH_BAD_CONTROL, NOT_PRINTED, NOT_PRINTED, NOT_PRINTED, NOT_PRINTED } },
     { { "002", "7.2.2", "figure 7-2, PBH=1, PBV=1", "right to left, bottom to top", "1.18" },
       PBH | PBV, { 0, 2, 1, 0, 0 },
       { BH_BAD_CONTROL, NOT_PRINTED, NOT_PRINTED, NOT_PRINTED, NOT_PRINTED } },

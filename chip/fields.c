@@ -130,7 +130,8 @@ static const struct cycles {
     uint32_t address, step, count, size;
     uint64_t cycles[2];
 } cycles[] = {
-    { { "000", "13.2.3", "figure 13-2, data read", "31 bits at >E5: three words, alignment G", SAME },
+    { { "000", "13.2.3", "figure 13-2, data read", "31 bits at >E5: three words, alignment G",
+        SAME },
       0xE5, 0, 1, 31, { 3, NOT_PRINTED } },
     { { "000", "13.2.3", "figure 13-2, data write",
         "31 bits at >161: two words, alignment E (D by the text; the same cycles)", SAME },
@@ -169,8 +170,8 @@ static void run_cycles(void)
 
 /* ---- 000 table 13-1: states of MOVE memory to register ---- */
 
-/* `printed` is the scan's own text: some separators are lost, no digits are. Each is read in the only
-   way in which the second number is the greater. */
+/* `printed` is the scan's own text: some separators are lost, no digits are. Each is read in the
+   only way in which the second number is the greater. */
 static const struct states {
     struct figure figure;
     const char *letters;
@@ -181,7 +182,8 @@ static const struct states {
       "AB", BH_INDIRECT, { 3, 6 } },
     { { "000", "13.2.1", "table 13-1, MOVE *Rs,Rd, C, D, E, F", "5,8", SAME },
       "CDEF", BH_INDIRECT, { 5, 8 } },
-    { { "000", "13.2.1", "table 13-1, MOVE *Rs,Rd, G", "7.10", SAME }, "G", BH_INDIRECT, { 7, 10 } },
+    { { "000", "13.2.1", "table 13-1, MOVE *Rs,Rd, G", "7.10", SAME },
+      "G", BH_INDIRECT, { 7, 10 } },
     { { "000", "13.2.1", "table 13-1, MOVE *Rs+,Rd, A or B", "3,6", SAME },
       "AB", BH_POSTINCREMENT, { 3, 6 } },
     { { "000", "13.2.1", "table 13-1, MOVE *Rs+,Rd, C, D, E, F", "58", SAME },
@@ -252,7 +254,8 @@ static void run_states(void)
     for (size_t i = 0; i < COUNT_OF(states); i++) {
         uint64_t got[2] = { 0, 0 };
         first_unlike(&states[i], got);
-        settle(&states[i].figure, "states in cache, cache disabled", 2, states[i].states, NULL, got);
+        settle(&states[i].figure, "states in cache, cache disabled", 2, states[i].states, NULL,
+               got);
     }
     run_sign_extension();
 }

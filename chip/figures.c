@@ -98,7 +98,8 @@ static void settle_wrong(const struct figure *figure, const char *what, size_t c
     printf("; the document has: %s\n", figure->printed);
 }
 
-/* True where the library follows the listed rule, and the rule decides otherwise than the document. */
+/* True where the library follows the listed rule, and the rule decides otherwise than the
+   document. */
 static bool follows_rule(const struct figure *figure, size_t count, const uint64_t *printed,
                          const uint64_t *scope, const uint64_t *got)
 {
@@ -147,8 +148,8 @@ static unsigned print_rules(void)
 {
     unsigned unused = 0;
     for (size_t i = 0; i < COUNT_OF(rules); i++) {
-        printf("rule %s\t%u\t%s%s\n", rules[i].number, uses[i], uses[i] == 0 ? "WRONG, unused: " : "",
-               rules[i].text);
+        printf("rule %s\t%u\t%s%s\n", rules[i].number, uses[i],
+               uses[i] == 0 ? "WRONG, unused: " : "", rules[i].text);
         unused += uses[i] == 0;
     }
     return unused;

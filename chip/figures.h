@@ -34,8 +34,8 @@ bool has_rule(const struct figure *figure);
 /* A number of the figure that the document doesn't print: any will do. */
 #define NOT_PRINTED UINT64_MAX
 
-/* Prints a figure's line. Without a rule the library's numbers must be the document's. With one they
-   must be the scope's, and these must differ from the document's. `what` names the numbers. */
+/* Prints a figure's line. Without a rule the library's numbers must be the document's. With one
+   they must be the scope's, and these must differ from the document's. `what` names the numbers. */
 void settle(const struct figure *figure, const char *what, size_t count, const uint64_t *printed,
             const uint64_t *scope, const uint64_t *got);
 

@@ -226,8 +226,8 @@ static void run_table(void)
     }
 }
 
-/* The order of section 7.7: "Pixels are first read from memory and modified by the plane mask. Pixel
-   processing is then performed on the modified pixel values. The plane mask is applied to the
+/* The order of section 7.7: "Pixels are first read from memory and modified by the plane mask.
+   Pixel processing is then performed on the modified pixel values. The plane mask is applied to the
    result. .. Next, transparency detection is applied". Each operation with each mask of 4 bits, and
    with T 0 and 1. */
 static void run_order(void)
@@ -271,7 +271,8 @@ static const struct zero_row {
 } zero_rows[] = {
     { { "002", "7.5", "AND of source 0, T=1", "ensures .. a transparent pixel", SAME }, AND },
     { { "002", "7.5", "MIN of source 0, T=1", "ensures .. a transparent pixel", SAME }, MIN },
-    { { "002", "7.5", "replace by source 0, T=1", "ensures .. a transparent pixel", SAME }, REPLACE },
+    { { "002", "7.5", "replace by source 0, T=1", "ensures .. a transparent pixel", SAME },
+      REPLACE },
 };
 
 /* Only the column of the source value 0 is drawn, over every destination value. */
@@ -321,7 +322,8 @@ static const struct pixel_row {
       BY_ALL, 4, CONTROL_OF(ADDS, 0, 0), 0, 2, 14, 15, 0 },
     { { "002", "7.9.1.2", "2 - 8, saturated", "stops the result at 0", WORKED },
       BY_ALL, 4, CONTROL_OF(SUBS, 0, 0), 0, 8, 2, 0, 0 },
-    { { "002", "7.9.1.3", "figure 7-8 m, MAX of 8 and 2", "greater than the blue background", SAME },
+    { { "002", "7.9.1.3", "figure 7-8 m, MAX of 8 and 2", "greater than the blue background",
+        SAME },
       BY_ALL, 4, CONTROL_OF(MAX, 0, 0), 0, 8, 2, 8, 0 },
     { { "002", "7.9.1.3", "figure 7-8 m, MAX of 8 and 12", "less than that of the X", SAME },
       BY_ALL, 4, CONTROL_OF(MAX, 0, 0), 0, 8, 12, 12, 0 },
@@ -355,7 +357,8 @@ static const struct pixel_row {
       BY(BH_FILL_L) | BY(BH_FILL_XY), 4, CONTROL_OF(SUB, 0, 0), 0x1111, 1, 2, 0, 2 },
     { { "002", "7.6", "2 - 1, plane 0 masked, DRAV", "not affected by the plane mask", "1.4" },
       BY(DRAV), 4, CONTROL_OF(SUB, 0, 0), 0x1111, 1, 2, 0, 2 },
-    { { "002", "7.6", "2 - 1, plane 0 masked, PIXT Rs,*Rd", "not affected by the plane mask", "1.4" },
+    { { "002", "7.6", "2 - 1, plane 0 masked, PIXT Rs,*Rd", "not affected by the plane mask",
+        "1.4" },
       BY(PIXT_L), 4, CONTROL_OF(SUB, 0, 0), 0x1111, 1, 2, 0, 2 },
     { { "002", "7.6", "2 - 1, plane 0 masked, PIXT Rs,*Rd.XY", "not affected by the plane mask",
         "1.4" },
@@ -491,7 +494,8 @@ static void run_word_rows(void)
 }
 
 /* "Each time a pixel is touched by the airbrush, the intensity of the red and green components is
-   increased by 1, and .. blue .. decreased by 1", until 15 and 0: sixteen passes over all values. */
+   increased by 1, and .. blue .. decreased by 1", until 15 and 0: sixteen passes over all
+   values. */
 static void run_airbrush(void)
 {
     const struct word_row red = { { "002", "7.9.2.3", "airbrush, red and green", "maximum", SAME },
@@ -571,7 +575,8 @@ static void run_mask_copies(void)
         for (size_t k = 0; k < COUNT_OF(words); k++) {
             memory[0] = words[k];
             for (uint32_t m = 0; m < values(mask_copies[i].psize); m++) {
-                uint64_t places = places_masked(mask_copies[i].psize, value(mask_copies[i].psize, m));
+                uint64_t places = places_masked(mask_copies[i].psize,
+                                                value(mask_copies[i].psize, m));
                 got = places < got ? places : got;
             }
         }

@@ -23,17 +23,21 @@ static const struct array_row {
       1, 0x004400E4, 0x0014003C, { 0, 0, 0, 1 }, { 0, 0, 1, 1 } },
     { { "004", "5.1.4", "W=1, no common rectangle", "the V bit is not set", WORKED },
       1, XY(0, 0), XY(10, 10), { 0, 0, 0, 0 }, { 0 } },
-    { { "002", "7.10.2", "W=2, array entirely within", "V is set to 0, no request; written", WORKED },
+    { { "002", "7.10.2", "W=2, array entirely within", "V is set to 0, no request; written",
+        WORKED },
       2, XY(240, 80), XY(10, 10), { 0, 100, 0, 0 }, { 0 } },
-    { { "002", "7.10.2", "W=2, array with pixels outside", "V is set to 1, request; aborted", WORKED },
+    { { "002", "7.10.2", "W=2, array with pixels outside", "V is set to 1, request; aborted",
+        WORKED },
       2, 0x004400E4, 0x0014003C, { 0, 0, 1, 1 }, { 0 } },
-    { { "002", "7.10.2", "W=2, array completely outside", "V is set to 1, request; aborted", WORKED },
+    { { "002", "7.10.2", "W=2, array completely outside", "V is set to 1, request; aborted",
+        WORKED },
       2, XY(0, 0), XY(10, 10), { 0, 0, 1, 1 }, { 0 } },
     { { "002", "7.10.3", "W=3, array entirely within", "No interrupt request", WORKED },
       3, XY(240, 80), XY(10, 10), { 0, 100, NOT_PRINTED, 0 }, { 0 } },
     { { "002", "7.10.3", "W=3, array with pixels outside", "only the portion within", SAME },
       3, 0x004400E4, 0x0014003C, { 0, 795, NOT_PRINTED, 0 }, { 0 } },
-    { { "002", "7.10.3", "W=3, array completely outside", "inhibited. No interrupt request", WORKED },
+    { { "002", "7.10.3", "W=3, array completely outside", "inhibited. No interrupt request",
+        WORKED },
       3, XY(0, 0), XY(10, 10), { 0, 0, NOT_PRINTED, 0 }, { 0 } },
     { { "004", "5.1.4", "DX = 0", "nothing is moved", WORKED },
       0, XY(240, 80), XY(0, 10), { 0, 0, NOT_PRINTED, 0 }, { 0 } },
@@ -110,7 +114,8 @@ static const struct lone_row {
     uint32_t w, wstart, wend, xy;
     uint64_t printed[4], scope[4];
 } lone_rows[] = {
-    { { "002", "7.10.1", "W=1, DRAV or PIXT outside", "V to be set to 1. No interrupt request", "1.1" },
+    { { "002", "7.10.1", "W=1, DRAV or PIXT outside", "V to be set to 1. No interrupt request",
+        "1.1" },
       1, 0x004900EB, 0x005F0140, XY(234, 73), { 0, 0, 1, 0 }, { 0, 0, 0, 0 } },
     { { "002", "7.10.1", "W=1, DRAV or PIXT inside", "V to be set to 0, .. request", "1.1" },
       1, 0x004900EB, 0x005F0140, XY(235, 73), { 0, 0, 0, 1 }, { 0, 0, 1, 1 } },
@@ -168,7 +173,8 @@ static const struct limits {
     uint32_t wstart, wend;
     uint64_t printed[5];
 } limits[] = {
-    { { "002", "7.10", "window of 000 section 13.3.3", "corner pixels .. lie within the window", SAME },
+    { { "002", "7.10", "window of 000 section 13.3.3", "corner pixels .. lie within the window",
+        SAME },
       0x004900EB, 0x005F0140, { 235, 320, 73, 95, 86 * 23 } },
     { { "002", "7.10.4", "figure 7-10, Xstart = Xend, Ystart = Yend", "a single pixel", SAME },
       0x00400100, 0x00400100, { 256, 256, 64, 64, 1 } },
@@ -194,7 +200,8 @@ static void run_limits(void)
                 got[4]++;
             }
         }
-        settle(&limits[i].figure, "X from, to, Y from, to, pixels", 5, limits[i].printed, NULL, got);
+        settle(&limits[i].figure, "X from, to, Y from, to, pixels", 5, limits[i].printed, NULL,
+               got);
     }
 }
 
@@ -258,7 +265,8 @@ static const struct common {
 } commons[] = {
     { { "002", "7.10.1", "W=1, DADDR and DYDX of 000 section 13.3.3", "the reduced array", SAME },
       0x004400E4, 0x0014003C, { 0x004900EB, XY(53, 15) } },
-    { { "004", "5.1.4", "W=1, DADDR and DYDX of 000 section 13.3.3", "the common pixel block", SAME },
+    { { "004", "5.1.4", "W=1, DADDR and DYDX of 000 section 13.3.3", "the common pixel block",
+        SAME },
       0x004400E4, 0x0014003C, { 0x004900EB, XY(53, 15) } },
     { { "004", "5.1.4", "DYDX of a window, by its program", "WEND - WSTART + >10001", SAME },
       0x00000000, 0x01000200, { 0x004900EB, XY(0x140 - 0xEB, 0x5F - 0x49) + 0x10001 } },

@@ -37,7 +37,11 @@ static void fill_in_slices(void)
 /* The scope's plan. */
 static void run_plan(void)
 {
-    const char *plan = "memory\t4\ndraw\tFILL L\naxis\tPSIZE\t4\t8\naxis\tCOLOR1\t255\t65535\naxis\tDYDX\t65538\n";
+    const char *plan = "memory\t4\n"
+                       "draw\tFILL L\n"
+                       "axis\tPSIZE\t4\t8\n"
+                       "axis\tCOLOR1\t255\t65535\n"
+                       "axis\tDYDX\t65538\n";
     uint64_t table[BH_TABLE], read[BH_PLAN_RESULTS], bytes[1];
     uint16_t image[4], memory[4];
     uint8_t text[1024];

@@ -2,23 +2,30 @@
 use std::io::Write;
 
 extern "C" {
-    fn bh_field_read(memory: *mut u16, words: usize, address: u32, size: u32, is_signed: u32, out: *mut u32, out_length: usize) -> u32;
-    fn bh_draw(memory: *mut u16, words: usize, operation: u32, settings: *const u32, settings_length: usize, place: u64, v: u32,
-               budget: u64, out: *mut u64, out_length: usize) -> u32;
-    fn bh_plan_read(text: *const u8, length: usize, table: *mut u64, table_length: usize, out: *mut u64, out_length: usize) -> u32;
+    fn bh_field_read(memory: *mut u16, words: usize, address: u32, size: u32, is_signed: u32,
+                     out: *mut u32, out_length: usize) -> u32;
+    fn bh_draw(memory: *mut u16, words: usize, operation: u32, settings: *const u32,
+               settings_length: usize, place: u64, v: u32, budget: u64, out: *mut u64,
+               out_length: usize) -> u32;
+    fn bh_plan_read(text: *const u8, length: usize, table: *mut u64, table_length: usize,
+                    out: *mut u64, out_length: usize) -> u32;
     fn bh_put_heading(out: *mut u8, out_length: usize, at: usize) -> usize;
-    fn bh_lines(table: *const u64, table_length: usize, axes: u64, draw: u64, first: u64, count: u64, image: *mut u16, image_words: usize,
-                memory: *mut u16, memory_words: usize, out: *mut u8, out_length: usize, bytes: *mut u64, bytes_length: usize) -> u32;
+    fn bh_lines(table: *const u64, table_length: usize, axes: u64, draw: u64, first: u64,
+                count: u64, image: *mut u16, image_words: usize, memory: *mut u16,
+                memory_words: usize, out: *mut u8, out_length: usize, bytes: *mut u64,
+                bytes_length: usize) -> u32;
 }
 
 const FILL_XY: u32 = 1;
 const STOPPED: u32 = 1;
 
 // A FILL or PIXBLT call: the answer and the seven results.
-fn draw(memory: &mut [u16], operation: u32, settings: &[u32; 13], place: u64, v: u32, budget: u64) -> (u32, [u64; 7]) {
+fn draw(memory: &mut [u16], operation: u32, settings: &[u32; 13], place: u64, v: u32,
+        budget: u64) -> (u32, [u64; 7]) {
     let mut out = [0u64; 7];
     let answer = unsafe {
-        bh_draw(memory.as_mut_ptr(), memory.len(), operation, settings.as_ptr(), 13, place, v, budget, out.as_mut_ptr(), 7)
+        bh_draw(memory.as_mut_ptr(), memory.len(), operation, settings.as_ptr(), 13, place, v,
+                budget, out.as_mut_ptr(), 7)
     };
     (answer, out)
 }
@@ -34,11 +41,14 @@ fn read_field() {
 // FILL XY clipped to a window: 53 by 15 of 60 by 20 pixels, stopped after 500 of them.
 fn fill_in_slices() {
     let mut memory = vec![0u16; 11208];
-    let settings = [0, 0, 0x004400E4, 0x800, 0, 0x004900EB, 0x005F0140, 0x0014003C, 0, 0xFFFF, 0xC0, 4, 0];
+    let settings = [
+        0, 0, 0x004400E4, 0x800, 0, 0x004900EB, 0x005F0140, 0x0014003C, 0, 0xFFFF, 0xC0, 4, 0,
+    ];
     let mut place = 0;
     loop {
         let (answer, out) = draw(&mut memory, FILL_XY, &settings, place, 0, 500);
-        println!("fill: answer {}, place {}, visited {}, V {}, DADDR {:X}", answer, out[0], out[1], out[2], out[5]);
+        println!("fill: answer {}, place {}, visited {}, V {}, DADDR {:X}",
+                 answer, out[0], out[1], out[2], out[5]);
         place = out[0];
         if answer != STOPPED {
             break;
@@ -50,17 +60,25 @@ fn fill_in_slices() {
 
 // The scope's plan.
 fn run_plan() {
-    let plan = b"memory\t4\ndraw\tFILL L\naxis\tPSIZE\t4\t8\naxis\tCOLOR1\t255\t65535\naxis\tDYDX\t65538\n";
+    let plan = b"memory\t4\n\
+                 draw\tFILL L\n\
+                 axis\tPSIZE\t4\t8\n\
+                 axis\tCOLOR1\t255\t65535\n\
+                 axis\tDYDX\t65538\n";
     let mut table = [0u64; 528];
     let mut read = [0u64; 5];
-    let answer = unsafe { bh_plan_read(plan.as_ptr(), plan.len(), table.as_mut_ptr(), table.len(), read.as_mut_ptr(), 5) };
+    let answer = unsafe {
+        bh_plan_read(plan.as_ptr(), plan.len(), table.as_mut_ptr(), table.len(),
+                     read.as_mut_ptr(), 5)
+    };
     println!("plan: answer {}, {} words, drawing {}, {} points", answer, read[1], read[2], read[4]);
-    let (mut image, mut memory, mut text, mut bytes) = ([0u16; 4], [0u16; 4], [0u8; 1024], [0u64; 1]);
+    let (mut image, mut memory) = ([0u16; 4], [0u16; 4]);
+    let (mut text, mut bytes) = ([0u8; 1024], [0u64; 1]);
     let end = unsafe { bh_put_heading(text.as_mut_ptr(), text.len(), 0) };
     std::io::stdout().write_all(&text[..end]).unwrap();
     unsafe {
-        bh_lines(table.as_ptr(), table.len(), read[3], read[2], 0, read[4], image.as_mut_ptr(), 4, memory.as_mut_ptr(), 4,
-                 text.as_mut_ptr(), text.len(), bytes.as_mut_ptr(), 1);
+        bh_lines(table.as_ptr(), table.len(), read[3], read[2], 0, read[4], image.as_mut_ptr(), 4,
+                 memory.as_mut_ptr(), 4, text.as_mut_ptr(), text.len(), bytes.as_mut_ptr(), 1);
     }
     std::io::stdout().write_all(&text[..bytes[0] as usize]).unwrap();
 }

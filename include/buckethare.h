@@ -228,10 +228,11 @@ uint32_t bh_experiment(const uint64_t *table, size_t table_length, uint64_t axes
 /* Runs `count` points from `first` on, each over the image of its SEED, and puts their lines of the
    listing at the start of out; written[0] is how many bytes these are. The image and the memory are
    those of the last point then; with count 0 they stay. What they hold before doesn't matter.
-   Answers 0; 9 (draw is above 7, the image and the memory aren't of one size up to 32,768 words, out
-   has less than BH_LINE x count bytes, or written is empty); 10 where they are empty; or 24 where a
-   point that is asked for isn't below the number of points. With count 0 none is asked for. A table
-   that doesn't hold the axes has no points. With 10 and 24 written[0] is 0, and nothing else changes. */
+   Answers 0; 9 (draw is above 7, the image and the memory aren't of one size up to 32,768 words,
+   out has less than BH_LINE x count bytes, or written is empty); 10 where they are empty; or 24
+   where a point that is asked for isn't below the number of points. With count 0 none is asked for.
+   A table that doesn't hold the axes has no points. With 10 and 24 written[0] is 0, and nothing
+   else changes. */
 uint32_t bh_lines(const uint64_t *table, size_t table_length, uint64_t axes, uint64_t draw,
                   uint64_t first, uint64_t count, uint16_t *image, size_t image_words,
                   uint16_t *memory, size_t memory_words, uint8_t *out, size_t out_length,
