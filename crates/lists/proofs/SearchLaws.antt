@@ -140,7 +140,8 @@ pub anyPair-snoc : {A : Type 0} (r : A → A → Bool) (symmetric : (a b : A) �
     → anyPair r (l ++ (x ∷ [])) ≡ (any (r x) l || anyPair r l)
 unfolding any anyPair
 anyPair-snoc r s x [] = refl
-anyPair-snoc r s x (y ∷ l) = rw (any-snoc (r y) x l, anyPair-snoc r s x l, s y x) (or-swap (r x y) (any (r y) l) (any (r x) l) (anyPair r l))
+anyPair-snoc r s x (y ∷ l) =
+    rw (any-snoc (r y) x l, anyPair-snoc r s x l, s y x) (or-swap (r x y) (any (r y) l) (any (r x) l) (anyPair r l))
 
 -- Two lists joined
 
@@ -166,5 +167,11 @@ unfolding any anyPair
 anyPair-append r s [] m = rw (any-never m)
 anyPair-append r s (x ∷ l) m =
     let turned : any (λ y. r y x) m ≡ any (r x) m = ap (λ (p : _ → Bool). any p m) (fun-ext (λ y. s y x)) in
-    rw (any-append (r x) l m, anyPair-append r s l m, any-or (λ y. r y x) (λ y. any (r y) l) m, turned, or-assoc (any (r x) m) (any (λ y. any (r y) l) m) (anyPair r m))
+    rw (
+      any-append (r x) l m,
+      anyPair-append r s l m,
+      any-or (λ y. r y x) (λ y. any (r y) l) m,
+      turned,
+      or-assoc (any (r x) m) (any (λ y. any (r y) l) m) (anyPair r m),
+    )
     (or-swap (any (r x) l) (any (r x) m) (anyPair r l) _)
