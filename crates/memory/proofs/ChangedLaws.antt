@@ -44,7 +44,8 @@ same-below m m′ (suc n) e a h = go (same-below m m′ n (omega arith) a) (ltb 
 
 pub same-of-changedBits : {n : ℕ} {m m′ : List ℕ} → Memory n m → Memory n m′ → changedBits m m′ ≡ 0 → m ≡ m′
 unfolding changedBits
-same-of-changedBits {n} {m} {m′} g g′ e = memory-ext g g′ (λ a h. same-below m m′ (16 * max (length m) (length m′)) e a (omega (arith, g .size, g′ .size)))
+same-of-changedBits {n} {m} {m′} g g′ e =
+    memory-ext g g′ (λ a h. same-below m m′ (16 * max (length m) (length m′)) e a (omega (arith, g .size, g′ .size)))
 
 pub changedBits-same : (m : List ℕ) → changedBits m m ≡ 0
 unfolding changedBits differing

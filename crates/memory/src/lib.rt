@@ -3,14 +3,20 @@ ghost use mathlib.Core.Path.{_≡_};
 ghost use mathlib.Core.Bool.{_||_};
 ghost use Prim.Native.Nat.{ℕ, _+_, _*_, _≤_, max};
 ghost use lib.ListN.{length, getD};
-ghost use Rattle.memory.specs.Bits.{noMemory, bitAt};
+ghost use Rattle.memory.specs.Bits.{mostWords, noMemory, bitAt};
 ghost use Rattle.memory.specs.Changed.{differs, changedBits, counted};
+
+// The bits of a word.
+pub const WORD_BITS: u64 = 16;
+
+// The words of the largest memory.
+pub const MOST_WORDS: usize = 1048576;
 
 // Refusal 10: is this no number of words of a memory?
 pub fn no_memory(words: usize) -> bool
     ensures { λ r. ⌜ r ≡ noMemory words ⌝ }
 {
-    (words == 0) | (1048576 < words)
+    (words == 0) | (MOST_WORDS < words)
 }
 
 // A word of the memory; a word past the end is 0.
@@ -28,8 +34,8 @@ pub fn word_at(memory: &[u16], at: u64) -> u16
 pub fn bit_at(memory: &[u16], address: u64) -> u16
     ensures { λ r. ⌜ r ≡ bitAt (now (memory .entry)) address ⌝ }
 {
-    let w = word_at(memory, address / 16);
-    let s = (address % 16) as u32;
+    let w = word_at(memory, address / WORD_BITS);
+    let s = (address % WORD_BITS) as u32;
     (w >> s) % 2
 }
 
@@ -69,10 +75,10 @@ fn difference(b: u16, c: u16) -> u64
 
 // The count, bit by bit.
 fn changed_bits(before: &[u16], after: &[u16]) -> u64
-    requires { ⌜ (length (now before) ≤ 1048576) × (length (now after) ≤ 1048576) ⌝ }
+    requires { ⌜ (length (now before) ≤ mostWords) × (length (now after) ≤ mostWords) ⌝ }
     ensures { λ r. ⌜ r ≡ changedBits (now (before .entry)) (now (after .entry)) ⌝ }
 {
-    let end = 16 * greater(before.len(), after.len()) as u64;
+    let end = WORD_BITS * greater(before.len(), after.len()) as u64;
     let mut bits: u64 = 0;
     let mut a: u64 = 0;
     while a < end {
