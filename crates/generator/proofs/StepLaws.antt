@@ -1,7 +1,8 @@
 -- Laws of `specs/Step.antt`: each part of a step is injective on 64 bits, and so is a step. Assumes nothing.
 use mathlib.Core.Path.{_≡_, refl, sym, ap, _∙_}
 use Prim.Native.Nat.{ℕ, zero, suc, _+_, _*_, _/_, _-_, _%_, _^_, _<_, _≤_}
-use native.Mathlib.Nat.{mod-lt, mod-one, mod-eq-of-lt, sub-add-cancel, mul-add-mod-self-right, pow-suc, mul-assoc, mul-comm, mul-left-comm, add-mul}
+use native.Mathlib.Nat.{mod-lt, mod-one, mod-eq-of-lt, sub-add-cancel, mul-add-mod-self-right, pow-suc, mul-assoc, mul-comm, mul-left-comm}
+use native.Mathlib.Nat.{add-mul}
 use native.Mathlib.Omega.{arith}
 use lib.Arith.{bin-ind}
 use lib.Pow.{pow-pos, split, mod-mod-pow}
@@ -32,10 +33,10 @@ module _ (k x y : ℕ) (e : xorLeft (suc k) x ≡ xorLeft (suc k) y) where
       (shl-low x j k h ∙ ap (λ (v : ℕ). v * 2 ^ suc k % 2 ^ suc j) (xorLeft-low j (omega arith)) ∙ sym (shl-low y j k h))
       (sym (xor-mod x _ (suc j)) ∙ ap (λ (v : ℕ). v % 2 ^ suc j) e ∙ xor-mod y _ (suc j))
 
-pub xorLeft-inj : (k x y : ℕ) → x < 2 ^ 64 → y < 2 ^ 64 → xorLeft (suc k) x ≡ xorLeft (suc k) y → x ≡ y
+xorLeft-inj : (k x y : ℕ) → x < 2 ^ 64 → y < 2 ^ 64 → xorLeft (suc k) x ≡ xorLeft (suc k) y → x ≡ y
 xorLeft-inj k x y hx hy e = sym (mod-eq-of-lt hx) ∙ xorLeft-low k x y e 64 (omega arith) ∙ mod-eq-of-lt hy
 
-pub xorLeft-lt : (k x : ℕ) → x < 2 ^ 64 → xorLeft k x < 2 ^ 64
+xorLeft-lt : (k x : ℕ) → x < 2 ^ 64 → xorLeft k x < 2 ^ 64
 xorLeft-lt k x h = xor-lt 64 x (x * 2 ^ k % 2 ^ 64) h (mod-lt (x * 2 ^ k) (pow-pos 64))
 
 -- ---- xor right: equal from the highest bit downwards
@@ -43,14 +44,14 @@ xorLeft-lt k x h = xor-lt 64 x (x * 2 ^ k % 2 ^ 64) h (mod-lt (x * 2 ^ k) (pow-p
 xorRight-half : (x : ℕ) → xorRight 7 x / 2 ≡ xorRight 7 (x / 2)
 xorRight-half x = xor-shr x (x / 2 ^ 7) 1 ∙ ap (bitXor (x / 2)) (omega arith)
 
-pub xorRight-inj : (x y : ℕ) → xorRight 7 x ≡ xorRight 7 y → x ≡ y
+xorRight-inj : (x y : ℕ) → xorRight 7 x ≡ xorRight 7 y → x ≡ y
 xorRight-inj =
     bin-ind (λ (x : ℕ). (y : ℕ) → xorRight 7 x ≡ xorRight 7 y → x ≡ y)
     (λ y e. omega (arith, xor-cancel (y / 2 ^ 7) (y / 2 ^ 7) (y / 2 ^ 7) y refl (xor-self (y / 2 ^ 7) ∙ e)))
     (λ x ih y e. let h : x / 2 ≡ y / 2 = ih (y / 2) (sym (xorRight-half x) ∙ ap (λ (v : ℕ). v / 2) e ∙ xorRight-half y) in
     xor-cancel (x / 2 ^ 7) (y / 2 ^ 7) x y (omega arith) e)
 
-pub xorRight-lt : (x : ℕ) → x < 2 ^ 64 → xorRight 7 x < 2 ^ 64
+xorRight-lt : (x : ℕ) → x < 2 ^ 64 → xorRight 7 x < 2 ^ 64
 xorRight-lt x h = xor-lt 64 x (x / 2 ^ 7) h (omega arith)
 
 -- ---- a step

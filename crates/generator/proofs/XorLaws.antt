@@ -10,7 +10,7 @@ half-ext : (a b : ℕ) → a / 2 ≡ b / 2 → a % 2 ≡ b % 2 → a ≡ b
 half-ext a b h l = omega arith
 
 -- the lowest bit is that of the sum
-pub xor-odd : (a b : ℕ) → bitXor a b % 2 ≡ (a + b) % 2
+xor-odd : (a b : ℕ) → bitXor a b % 2 ≡ (a + b) % 2
 xor-odd a b = omega (arith, xor-add-and a b)
 
 -- equal second operands cancel

@@ -1,4 +1,5 @@
-// The generator of images: one advance of it by value, and the struct that is lent and advanced in place.
+// The generator of images: one advance of it by value, and the struct that is lent and advanced in
+// place.
 ghost use mathlib.Core.Path.{_≡_};
 ghost use Rattle.generator.specs.Step.{stepped};
 
@@ -18,7 +19,8 @@ pub struct Generator {
 
 // One draw: advances the generator in place by a step, and answers its new state.
 pub fn draw(g: &mut Generator) -> u64
-    ensures { λ r. ⌜ (r ≡ stepped (now (g .entry) .state)) × (now (g .exit) .state ≡ stepped (now (g .entry) .state)) ⌝ }
+    ensures { λ r. let next = stepped (now (g .entry) .state) in
+        ⌜ (r ≡ next) × (now (g .exit) .state ≡ next) ⌝ }
 {
     let next = step(g.state);
     g.state = next;

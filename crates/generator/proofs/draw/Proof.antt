@@ -1,7 +1,6 @@
--- `generator::draw` meets its contract: a walk of its MIR, by hand. The borrow is opened, the state is read, `step` is called with it, what it
--- returns is stored in the field, and the borrow is closed at the new generator.
--- All that the proof knows of `step` is that it meets its contract.
--- Assumes nothing.
+-- `generator::draw` meets its contract: a walk of its MIR, by hand. The borrow is opened, the state is read, `step` is called with it,
+-- what it returns is stored in the field, and the borrow is closed at the new generator. All that the proof knows of `step` is that it
+-- meets its contract. Assumes nothing.
 use mathlib.Core.Path.{_≡_, refl, ap}
 use Prim.Native.Nat.{ℕ, _<_, _^_}
 use mathlib.Core.List.{[], _∷_, List}
@@ -82,10 +81,12 @@ module _ {M : Type 1} (𝓤 : URA M) (H : Heap 𝓤) (A : Atoms 𝓤) (W : Given
   Post = walkOf 𝓤 H A draw.ended stayed (draw.clauses 𝓤 H A at-mem run) .post (((κ, tt), (q, tt), tt, x, at), tt)
 
   exits : (r : ℕ) → r < 2 ^ 64 → r ≡ stepped n
-      → ent 𝓤 (sep 𝓤 (A .obs γ (the-row .coded .code (holding r))) (sep 𝓤 (A .bor κ (Body (mem the-row) b o γ)) (A .lft κ q))) (Post (vint w64 r))
+      → ent 𝓤 (sep 𝓤 (A .obs γ (the-row .coded .code (holding r))) (sep 𝓤 (A .bor κ (Body (mem the-row) b o γ)) (A .lft κ q)))
+      (Post (vint w64 r))
   exits r fits e =
       qed W (‵ (fobs γ (the-row .coded .code (holding r))) ∷ ‵ (fbor κ (Body (mem the-row) b o γ)) ∷ ‵ (flft κ q) ∷ []) ∵
-      suffices ! _ (ends-at 𝓤 H A draw.ended stayed (draw.clauses 𝓤 H A at-mem run) W (((κ, tt), (q, tt), tt, x, at), tt) (vint w64 r) r (holding r, tt) (tt, tt)) $
+      suffices ! _ (ends-at 𝓤 H A draw.ended stayed (draw.clauses 𝓤 H A at-mem run) W (((κ, tt), (q, tt), tt, x, at), tt)
+      (vint w64 r) r (holding r, tt) (tt, tt)) $
       says ! (e, e) $ nothing ! $ move ! (3 ∷ 0 ∷ []) $ join ! $
       frame ! $ feqI ! (List Val) (vptr b o ∷ []) (vptr b o ∷ []) refl $ fjoin3 ! $ nothing ! $ move ! (1 ∷ 0 ∷ []) $ fjoin ! $
       owned ! u64 (Is u64) (uint-makes 𝓤 H A W w64) r _ (refl, fits) $ move ! (1 ∷ 0 ∷ []) $ done !
@@ -100,21 +101,25 @@ module _ {M : Type 1} (𝓤 : URA M) (H : Heap 𝓤) (A : Atoms 𝓤) (W : Given
   module _ (C : Calls 𝓤 H) (Λ : Loops 𝓤 H) (fm : FmC 𝓤 H (W .laws) C) (known : Triple 𝓤 (C #generator·step) (Step 𝓤 H A at-mem run)) where
     walk : ent 𝓤 (onEntry 𝓤 H A draw.signature (κ, tt) (q, tt) x at) (WpFn 𝓤 H C Λ code.function (vptr b o ∷ []) Post)
     walk =
-        qed W ((‵ (flft κ q) ⊛ ‵ ftrue) ∷ ‵ (owns (MutRef (named 0) κ the-row ∷ []) x at) ∷ []) ∵ enter ! C Λ code.function (vptr b o ∷ []) _ $
+        qed W ((‵ (flft κ q) ⊛ ‵ ftrue) ∷ ‵ (owns (MutRef (named 0) κ the-row ∷ []) x at) ∷ []) ∵
+        enter ! C Λ code.function (vptr b o ∷ []) _ $
         alloc1 ! (λ l₀. alloc1 ! (λ l₁. alloc1 ! (λ l₂. alloc1 ! (λ l₃. alloc0 ! $ params1 ! $ pass1 ! (init ! 4 refl (tt, tt)) $ pass0 ! $
         -- the borrow is opened
         move ! (9 ∷ []) $ fsplit ! $ fsplit3 ! $ drop ! $ move ! (11 ∷ []) $ split ! $ move ! (2 ∷ 3 ∷ 0 ∷ []) $
         opens ! tt the-row {h = holding n} b o (λ vs.
         spelt ! the-row (Is the-row) (shows 𝓤 H A the-row) (vals the-type the-laws) (tells the-type the-laws) fullShare (holding n) vs b o $
         move ! (1 ∷ []) $ peeks ! the-row (Is the-row) (shows 𝓤 H A the-row) (holding n) (machine n ∷ []) (λ g. move ! (1 ∷ 0 ∷ []) $
-        -- [the generator's cell; what it owns; the open borrow; obs; auth; true; true; room for _3; …; room for _2; …; _1; …; room for _0; …]
+        -- [the generator's cell; what it owns; the open borrow; obs; auth; true; true; room for _3; …; room for _2; …;
+        -- _1; …; room for _0; …]
         assigns ! (of-opd ! (load ! (from ! (hop ! (look ! 11 refl) (fld ! refl (stop !)))) (look-in ! 0 (sub ! 0 refl (whole !)))))
         (from ! (stop !)) (init ! 7 refl (tt, record { fits = state-lt n _ g })) $
         move ! (5 ∷ []) $ use1 W (raw (Step 𝓤 H A at-mem run .pre to-step)) (goes-step (state-lt n _ g)) $
         -- `step` is called with the state
         calls-at ! fm (Step 𝓤 H A at-mem run) known to-step (and-then ! (load ! (from ! (stop !)) (look ! 7 refl)) (no-more !)) (λ v.
-        use1 W (later (some (λ (r : ℕ). (‵ ftrue ⊛ ‵ (u64 .own r (v ∷ []))) ⊛ raw (Stepped 𝓤 H A at-mem run n r)))) (id⊢ 𝓤 _) $ await ! tt $ pick ! (λ r.
-        split ! $ move ! (1 ∷ []) $ use1 W (raw (fact 𝓤 (r ≡ stepped n))) (step-says 𝓤 H A at-mem run n r) $ heard ! (r ≡ stepped n) (λ e. split ! $ drop ! $
+        use1 W (later (some (λ (r : ℕ). (‵ ftrue ⊛ ‵ (u64 .own r (v ∷ []))) ⊛ raw (Stepped 𝓤 H A at-mem run n r)))) (id⊢ 𝓤 _) $ await ! tt $
+        pick ! (λ r.
+        split ! $ move ! (1 ∷ []) $ use1 W (raw (fact 𝓤 (r ≡ stepped n))) (step-says 𝓤 H A at-mem run n r) $
+        heard ! (r ≡ stepped n) (λ e. split ! $ drop ! $
         peeks ! u64 (Is u64) (shows 𝓤 H A u64) r (v ∷ []) (λ is.
         land ! (from ! (stop !)) (init ! 9 refl (uint-lawful 𝓤 H A W w64 .typed r _ is .0)) $
         rewrite ! 9 (λ (u : Val). ‵ (fat fullShare (tyInt w64) l₂ 0 u)) (ap only (is .0)) refl $
@@ -126,7 +131,8 @@ module _ {M : Type 1} (𝓤 : URA M) (H : Heap 𝓤) (A : Atoms 𝓤) (W : Given
         drop ! $ move ! (1 ∷ []) $ drop ! $ owned ! the-row (Is the-row) (makes the-type the-plain 𝓤 H A) (holding r) _ (made r (is .1)) $
         move ! (1 ∷ 0 ∷ []) $ closes ! tt the-row (holding r) (machine r ∷ []) b o $
         returns ! (look ! 10 refl) $ forget ! 4 refl $ forget ! 6 refl $ forget ! 8 refl $ forget ! 10 refl $
-        move ! (10 ∷ 11 ∷ []) $ free1 ! $ move ! (8 ∷ 9 ∷ []) $ free1 ! $ move ! (6 ∷ 7 ∷ []) $ free1 ! $ move ! (4 ∷ 5 ∷ []) $ free1 ! $ free0 ! $
+        move ! (10 ∷ 11 ∷ []) $ free1 ! $ move ! (8 ∷ 9 ∷ []) $ free1 ! $ move ! (6 ∷ 7 ∷ []) $ free1 ! $
+        move ! (4 ∷ 5 ∷ []) $ free1 ! $ free0 ! $
         keep ! (0 ∷ 1 ∷ 2 ∷ []) $ by ! (exits r (is .1) e)))))))))))
 
 module _ {M : Type 1} (𝓤 : URA M) (H : Heap 𝓤) (A : Atoms 𝓤) (W : Given 𝓤 H A) (at-mem : Memory → SProp 𝓤) (run : Routine → Fun 𝓤) where
@@ -151,4 +157,5 @@ draw-spec 𝓤 H 𝓜 𝓖 𝓡 =
     entered 𝓤 H (tripleOf 𝓤 H (𝓖 .A) draw.signature (draw.spec 𝓤 H (𝓖 .A) (𝓜 .mem) (𝓡 .run)))
     (tables 𝓤 H 𝓜 𝓡 code.env .C) (tables 𝓤 H 𝓜 𝓡 code.env .Λ) #generator·draw code.function (code.unfolded 𝓤 H 𝓜 𝓡)
     (draw-meets 𝓤 H (𝓖 .A) (givenOf 𝓤 H 𝓜 𝓖) (𝓜 .mem) (𝓡 .run) (tablesOf 𝓤 H 𝓜 (tables 𝓤 H 𝓜 𝓡 code.env))
-    (cited 𝓤 H (Step 𝓤 H (𝓖 .A) (𝓜 .mem) (𝓡 .run)) 𝓜 𝓡 code.env #generator·step step-def.routine code.calls-generator·step (step-thm.met 𝓤 H 𝓜 𝓖 𝓡)))
+    (cited 𝓤 H (Step 𝓤 H (𝓖 .A) (𝓜 .mem) (𝓡 .run)) 𝓜 𝓡 code.env #generator·step step-def.routine code.calls-generator·step
+    (step-thm.met 𝓤 H 𝓜 𝓖 𝓡)))
