@@ -7,7 +7,7 @@ use lib.ListN.{length, length-take}
 use Rattle.generator.specs.Step.{stepped}
 use Rattle.image.specs.Image.{draws, image}
 
-pub length-draws : (k x : ℕ) → length (draws k x) ≡ 4 * k
+length-draws : (k x : ℕ) → length (draws k x) ≡ 4 * k
 length-draws zero x = refl
 length-draws (suc k) x = omega (arith, length-draws k (stepped x))
 

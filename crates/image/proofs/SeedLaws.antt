@@ -11,11 +11,12 @@ use Rattle.generator.proofs.StepLaws.{stepped-inj, stepped-lt}
 use Rattle.image.specs.Image.{words, draws, image}
 
 -- a number below 2 ^ (16 * k) is told by its k low words
-pub words-inj : (k x y : ℕ) → x < 2 ^ (k * 16) → y < 2 ^ (k * 16) → words k x ≡ words k y → x ≡ y
+words-inj : (k x y : ℕ) → x < 2 ^ (k * 16) → y < 2 ^ (k * 16) → words k x ≡ words k y → x ≡ y
 words-inj zero x y hx hy e = omega arith
 words-inj (suc k) x y hx hy e =
     let low : x % 2 ^ 16 ≡ y % 2 ^ 16 = cc in
-    let high : x / 2 ^ 16 ≡ y / 2 ^ 16 = words-inj k _ _ (shr-lt (k * 16) 16 (rw suc-mul at hx)) (shr-lt (k * 16) 16 (rw suc-mul at hy)) (cc) in
+    let high : x / 2 ^ 16 ≡ y / 2 ^ 16 =
+    words-inj k _ _ (shr-lt (k * 16) 16 (rw suc-mul at hx)) (shr-lt (k * 16) 16 (rw suc-mul at hy)) (cc) in
     omega arith
 
 -- an image of four or more words tells its seed

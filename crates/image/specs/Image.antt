@@ -16,13 +16,14 @@ abbrev pub draws : ℕ → ℕ → List ℕ
 draws zero x = []
 draws (suc k) x = words 4 (stepped x) ++ draws k (stepped x)
 
--- the image over a memory of n words: start at SEED, cut off at the memory's end (n draws are enough: `length-image`)
+-- the image over a memory of n words: start at SEED, cut off at the memory's end (n draws are
+-- enough: `length-image`)
 abbrev pub image : ℕ → ℕ → List ℕ
 image n seed = take n (draws n seed)
 
 -- an image is asked of a memory: refusal 10, or 0
-abbrev pub refusal : ℕ → ℕ
-refusal words = cond (noMemory words) 10 0
+abbrev pub imageRefusal : ℕ → ℕ
+imageRefusal words = cond (noMemory words) 10 0
 
 -- the memory after it
 unfoldable pub imaged : List ℕ → ℕ → List ℕ

@@ -2,12 +2,13 @@
 ghost use mathlib.Core.Path.{_≡_};
 ghost use Prim.Native.Nat.{_+_, _<_, _≤_};
 ghost use lib.ListN.{length};
-ghost use Rattle.image.specs.Image.{image, refusal, imaged};
-ghost use Rattle.image.specs.Words.{stored};
+ghost use Rattle.image.specs.Image.{image, imageRefusal, imaged};
+ghost use Rattle.image.specs.Words.{storedWords};
 
 // Fills the memory with the image of the seed, and answers 0 or the refusal's number.
 pub fn fill_image(memory: &mut [u16], seed: u64) -> u32
-    ensures { λ r. ⌜ (r ≡ refusal (length (now (memory .entry)))) × (now (memory .exit) ≡ imaged (now (memory .entry)) seed) ⌝ }
+    ensures { λ r. let m = now (memory .entry) in
+        ⌜ (r ≡ imageRefusal (length m)) × (now (memory .exit) ≡ imaged m seed) ⌝ }
 {
     if memory::no_memory(memory.len()) {
         return 10;
@@ -16,7 +17,8 @@ pub fn fill_image(memory: &mut [u16], seed: u64) -> u32
     0
 }
 
-// Four words of each draw, lowest first, cut off at the memory's end. One generator is lent to every draw.
+// Four words of each draw, lowest first, cut off at the memory's end. One generator is lent to
+// every draw.
 fn fill(memory: &mut [u16], seed: u64)
     ensures { λ r. ⌜ now (memory .exit) ≡ image (length (now (memory .entry))) seed ⌝ }
 {
@@ -32,7 +34,7 @@ fn fill(memory: &mut [u16], seed: u64)
 // Puts the four words of x into the memory from `at` on, lowest first, as far as it goes.
 fn put(memory: &mut [u16], at: usize, x: u64)
     requires { ⌜ at < length (now memory) ⌝ }
-    ensures { λ r. ⌜ now (memory .exit) ≡ stored 4 (now (memory .entry)) at x ⌝ }
+    ensures { λ r. ⌜ now (memory .exit) ≡ storedWords 4 (now (memory .entry)) at x ⌝ }
 {
     if memory.len() - at < 4 {
         return put_last(memory, at, x);
@@ -46,7 +48,7 @@ fn put(memory: &mut [u16], at: usize, x: u64)
 // The same where the memory ends first.
 fn put_last(memory: &mut [u16], at: usize, x: u64)
     requires { ⌜ length (now memory) ≤ at + 4 ⌝ }
-    ensures { λ r. ⌜ now (memory .exit) ≡ stored 4 (now (memory .entry)) at x ⌝ }
+    ensures { λ r. ⌜ now (memory .exit) ≡ storedWords 4 (now (memory .entry)) at x ⌝ }
 {
     let mut rest = x;
     let mut i = at;

@@ -2,7 +2,7 @@
 use native.Mathlib.Omega.{arith}
 use borrow.Author.Needs.{needs}
 use lib.ListN.{length-set}
-use Rattle.image.proofs.FillLaws.{stored-four}
+use Rattle.image.proofs.FillLaws.{storedWords-four}
 use Rattle.image.proofs.put.Statement.{statement}
 use Rattle.image.proofs.put.Tie as tie
 
@@ -18,7 +18,7 @@ slice-write-memory-4 c = rw (length-set, length-set, length-set) (omega (arith, 
 returns-2 : tie.Need-returns-2
 returns-2 c =
     let s = c .before .before in
-    stored-four (s .args .memory .now) (s .args .at) (s .args .x) (s .fits .x .fits)
+    storedWords-four (s .args .memory .now) (s .args .at) (s .args .x) (s .fits .x .fits)
 
 pub put-spec : {M : Type 1} → statement M
 put-spec =

@@ -3,22 +3,19 @@ use mathlib.Core.Path.{_≡_, refl, _∙_}
 use Prim.Native.Nat.{_-_}
 use borrow.Author.Needs.{needs}
 use lib.ListN.{length, length-set}
-use Rattle.image.specs.Words.{stored}
+use Rattle.image.specs.Words.{storedWords}
 use Rattle.image.proofs.FillLaws.{Putting, put-next, put-done}
 use Rattle.image.proofs.put_last.Statement.{statement}
 use Rattle.image.proofs.put_last.Tie as tie
 
 abbrev Inv-loop : tie.InvT-loop
-Inv-loop memory₀ at x rest₀ i₀ memory rest i = (length memory ≡ length memory₀) × Putting (stored 4 memory₀ at x) memory rest i
+Inv-loop memory₀ at x rest₀ i₀ memory rest i = (length memory ≡ length memory₀) × Putting (storedWords 4 memory₀ at x) memory rest i
 
 abbrev μ-loop : tie.MeasureT-loop
 μ-loop memory₀ at x rest₀ i₀ memory rest i = length memory₀ - i
 
 loop-holds : tie.Need-loop-holds Inv-loop μ-loop
 loop-holds c = (refl, record { left = 4; enough = c .pre; ahead = refl })
-
-loop-less : tie.Need-loop-less Inv-loop μ-loop
-loop-less c = search needs
 
 loop-again : tie.Need-loop-again Inv-loop μ-loop
 loop-again c =
@@ -42,7 +39,7 @@ put-last-spec =
     (λ c. search needs)
     (λ c. search needs)
     (λ c. search needs)
-    loop-less
+    (λ c. search needs)
     loop-again
     same-length
     returns)
