@@ -1,74 +1,76 @@
 -- Laws of `specs/Cache.antt`. No contract cites this file. Assumes nothing.
 use mathlib.Core.Path.{_≡_, refl, ap, _∙_}
-use mathlib.Core.Bool.{Bool, true, false, cond, _||_, and-comm, and-assoc, and-false, and-eq-true-iff}
-use mathlib.Core.List.{List, [], _∷_, _++_}
-use Prim.Native.Nat.{ℕ, _-_, _^_, _≤_, _<_}
+use mathlib.Core.Bool.{Bool, true, false, cond, _||_, and-assoc, and-false, and-eq-true-iff}
+use mathlib.Core.List.{List}
+use Prim.Native.Nat.{ℕ, _^_, _≤_, _<_}
 use native.Mathlib.Omega.{arith}
 use borrow.Author.Tests.{lt-ltb, le-ltb, leb-false}
 use lib.Dec.{eqb, leb, ltb}
-use lib.ListN.{length, getD}
+use lib.ListN.{getD}
 use lib.Seq.{set-getD}
 use Rattle.lists.specs.Search.{any, first, anyPair}
-use Rattle.lists.proofs.TestLaws.{or-eq-false, eqb-comm}
-use Rattle.lists.proofs.SearchLaws.{any-first, getD-first, any-getD, any-none, any-set, any-set-same, anyPair-set, anyPair-set-same, any-snoc, anyPair-snoc}
+use Rattle.lists.proofs.TestLaws.{or-eq-false}
+use Rattle.lists.proofs.SearchLaws.{getD-first, any-getD, any-none, any-set, any-set-same, anyPair-set, anyPair-set-same}
 use Rattle.segments.specs.declared.Segment.{Segment}
 use Rattle.order.specs.Order.{badOrder, latest}
 use Rattle.order.proofs.OrderLaws.{any-latest, anyPair-latest}
-use Rattle.segments.specs.Segments.{tooHigh, holds, clash, matches, noSegment}
+use Rattle.segments.specs.Segments.{segmentCount, mostStart, tooHigh, holdsSome, clash, matches, noSegment}
 use Rattle.segments.proofs.SegmentLaws.{clash-comm}
 use Rattle.cache.specs.declared.Cache.{Cache}
 use Rattle.cache.specs.declared.Fetched.{Fetched}
 use Rattle.cache.specs.declared.Kind.the-variants.{Hit, SubsegmentMiss, SegmentMiss, Disabled, Refused}
-use Rattle.cache.specs.Cache.{refused, refusal, startOf, subsegmentOf, store, empty, withFlag, segmentAt, hit, subsegmentMiss, segmentMiss, matched, lookup, disabled, fetched, answerOf}
+use Rattle.cache.specs.Cache.{badState, fetchRefusal, startAddress, subsegmentOf, withSegment, noFlags, withFlag, segmentAt, hit}
+use Rattle.cache.specs.Cache.{subsegmentMiss, segmentMiss, matched, lookup, disabled, fetched, fetchAnswer}
 
 -- what holds of a state that is not refused
 pub record Accepted (c : Cache) : Type 0 where
-  pub named : any (λ k. leb 4 k) (c .order) ≡ false
+  pub named : any (λ k. leb segmentCount k) (c .order) ≡ false
   pub once : anyPair eqb (c .order) ≡ false
   pub low : any tooHigh (c .segments) ≡ false
   pub apart : anyPair clash (c .segments) ≡ false
 
-pub accepted : (c : Cache) → refused c ≡ false → Accepted c
-unfolding refused
+pub accepted : (c : Cache) → badState c ≡ false → Accepted c
+unfolding badState
 accepted c e =
     let p = or-eq-false (badOrder (c .order) || any tooHigh (c .segments)) _ e in
     let q = or-eq-false (badOrder (c .order)) _ (p .0) in
-    let s = or-eq-false (any (λ k. leb 4 k) (c .order)) _ (q .0) in
+    let s = or-eq-false (any (λ k. leb segmentCount k) (c .order)) _ (q .0) in
     record { named = s .0; once = s .1; low = q .1; apart = p .1 }
 
-pub not-refused : {c : Cache} → Accepted c → refused c ≡ false
-unfolding refused
+pub not-refused : {c : Cache} → Accepted c → badState c ≡ false
+unfolding badState
 not-refused a = rw (a .named, a .once, a .low) (a .apart)
 
 -- each place of its order names a segment
-pub order-lt : (c : Cache) (i : ℕ) → refused c ≡ false → getD (c .order) i 0 < 4
-order-lt c i e = leb-false 4 _ (any-getD (λ k. leb 4 k) 0 (c .order) i refl (accepted c e .named))
+pub order-lt : (c : Cache) (i : ℕ) → badState c ≡ false → getD (c .order) i 0 < segmentCount
+order-lt c i e = leb-false segmentCount _ (any-getD (λ k. leb segmentCount k) 0 (c .order) i refl (accepted c e .named))
 
 -- What a fetch hands back, by the tests of the state and of CD
 
 module _ (c : Cache) (address control : ℕ) where
-  pub fetched-refused : refused c ≡ true → fetched c address control ≡ record { kind = Refused; cache = c }
+  pub fetched-refused : badState c ≡ true → fetched c address control ≡ record { kind = Refused; cache = c }
   unfolding fetched
   fetched-refused e = rw e
 
-  pub fetched-disabled : refused c ≡ false → disabled control ≡ true → fetched c address control ≡ record { kind = Disabled; cache = c }
+  pub fetched-disabled : badState c ≡ false → disabled control ≡ true → fetched c address control ≡ record { kind = Disabled; cache = c }
   unfolding fetched
   fetched-disabled e d = rw (e, d)
 
-  pub fetched-lookup : refused c ≡ false → disabled control ≡ false → fetched c address control ≡ lookup c (startOf address) (subsegmentOf address)
+  pub fetched-lookup : badState c ≡ false → disabled control ≡ false
+      → fetched c address control ≡ lookup c (startAddress address) (subsegmentOf address)
   unfolding fetched
   fetched-lookup e d = rw (e, d)
 
 -- The number that a fetch answers is that of its state, whatever it finds
 
 module _ (c : Cache) (address control : ℕ) where
-  pub answer-refusal : answerOf (fetched c address control .kind) ≡ refusal c
+  pub answer-refusal : fetchAnswer (fetched c address control .kind) ≡ fetchRefusal c
   unfolding fetched lookup
   answer-refusal =
-      go (refused c) (disabled control) (any (matches start) (c .segments)) (getD (segmentAt c i .present) sub false)
+      go (badState c) (disabled control) (any (matches start) (c .segments)) (getD (segmentAt c i .present) sub false)
     where
       start : ℕ
-      start = startOf address
+      start = startAddress address
 
       sub : ℕ
       sub = subsegmentOf address
@@ -77,7 +79,7 @@ module _ (c : Cache) (address control : ℕ) where
       i = first (matches start) (c .segments)
 
       go : (r d m f : Bool)
-          → answerOf ((cond r (record { kind = Refused; cache = c })
+          → fetchAnswer ((cond r (record { kind = Refused; cache = c })
           (cond d (record { kind = Disabled; cache = c })
           (cond m (cond f (hit c i) (subsegmentMiss c i sub)) (segmentMiss c start sub)))) .kind) ≡ cond r 19 0
       go true d m f = refl
@@ -86,26 +88,28 @@ module _ (c : Cache) (address control : ℕ) where
       go false false true false = refl
       go false false false f = refl
 
-  pub fetched-answer : {r : Fetched} → r ≡ fetched c address control → (r ≡ fetched c address control) × (answerOf (r .kind) ≡ refusal c)
-  fetched-answer e = (e, ap (λ (f : Fetched). answerOf (f .kind)) e ∙ answer-refusal)
+  pub fetched-answer : {r : Fetched} → r ≡ fetched c address control
+      → (r ≡ fetched c address control) × (fetchAnswer (r .kind) ≡ fetchRefusal c)
+  fetched-answer e = (e, ap (λ (f : Fetched). fetchAnswer (f .kind)) e ∙ answer-refusal)
 
 -- What a look-up hands back, by the place of the first match
 
-module _ (c : Cache) (start sub i : ℕ) (e : i ≡ first (matches start) (c .segments)) (f : any (matches start) (c .segments) ≡ ltb i 4) (r : Cache) where
-  pub lookup-hit : i < 4 → getD (segmentAt c i .present) sub false ≡ true → r ≡ store c i (segmentAt c i)
+module _ (c : Cache) (start sub i : ℕ) (e : i ≡ first (matches start) (c .segments))
+    (f : any (matches start) (c .segments) ≡ ltb i segmentCount) (r : Cache) where
+  pub lookup-hit : i < segmentCount → getD (segmentAt c i .present) sub false ≡ true → r ≡ withSegment c i (segmentAt c i)
       → record { kind = Hit; cache = r } ≡ lookup c start sub
   unfolding lookup
-  lookup-hit l t q = rw (q, f, lt-ltb i 4 l, ← e, t, set-getD (c .segments) i noSegment)
+  lookup-hit l t q = rw (q, f, lt-ltb i segmentCount l, ← e, t, set-getD (c .segments) i noSegment)
 
-  pub lookup-part : i < 4 → getD (segmentAt c i .present) sub false ≡ false → r ≡ store c i (withFlag sub (segmentAt c i))
+  pub lookup-part : i < segmentCount → getD (segmentAt c i .present) sub false ≡ false → r ≡ withSegment c i (withFlag sub (segmentAt c i))
       → record { kind = SubsegmentMiss; cache = r } ≡ lookup c start sub
   unfolding lookup
-  lookup-part l t q = rw (q, f, lt-ltb i 4 l, ← e, t)
+  lookup-part l t q = rw (q, f, lt-ltb i segmentCount l, ← e, t)
 
-  pub lookup-miss : 4 ≤ i → r ≡ store c (getD (c .order) 0 0) (withFlag sub (empty start))
+  pub lookup-miss : segmentCount ≤ i → r ≡ withSegment c (getD (c .order) 0 0) (withFlag sub (noFlags start))
       → record { kind = SegmentMiss; cache = r } ≡ lookup c start sub
   unfolding lookup
-  lookup-miss l q = rw (q, f, le-ltb i 4 l)
+  lookup-miss l q = rw (q, f, le-ltb i segmentCount l)
 
 -- A look-up keeps an accepted state accepted
 
@@ -115,24 +119,25 @@ module _ (c : Cache) (a : Accepted c) where
   latest-accepted i l h e =
       record { named = any-latest _ i (c .order) ∙ a .named; once = anyPair-latest i (c .order) ∙ a .once; low = h; apart = e }
 
-  withFlag-accepted : (i sub : ℕ) → holds (segmentAt c i) ≡ true → Accepted (store c i (withFlag sub (segmentAt c i)))
+  withFlag-accepted : (i sub : ℕ) → holdsSome (segmentAt c i) ≡ true → Accepted (withSegment c i (withFlag sub (segmentAt c i)))
   withFlag-accepted i sub h =
-      let more : holds (withFlag sub (segmentAt c i)) ≡ true = any-set (λ f. f) true (segmentAt c i .present) sub true refl h in
+      let more : holdsSome (withFlag sub (segmentAt c i)) ≡ true = any-set (λ f. f) true (segmentAt c i .present) sub true refl h in
       latest-accepted i _ (any-set-same tooHigh _ noSegment (c .segments) i refl ∙ a .low)
       (anyPair-set-same clash clash-comm _ noSegment (c .segments) i (λ t. rw (more, h)) ∙ a .apart)
 
-  matched-accepted : (i sub : ℕ) → holds (segmentAt c i) ≡ true → Accepted (matched c i sub .cache)
+  matched-accepted : (i sub : ℕ) → holdsSome (segmentAt c i) ≡ true → Accepted (matched c i sub .cache)
   matched-accepted i sub h = go (getD (segmentAt c i .present) sub false)
     where
       go : (b : Bool) → Accepted ((cond b (hit c i) (subsegmentMiss c i sub)) .cache)
       go true = latest-accepted i (c .segments) (a .low) (a .apart)
       go false = withFlag-accepted i sub h
 
-  new-accepted : (i : ℕ) (s : Segment) → s .start < 2 ^ 23 → any (matches (s .start)) (c .segments) ≡ false → Accepted (store c i s)
+  new-accepted : (i : ℕ) (s : Segment) → s .start < 2 ^ 23 → any (matches (s .start)) (c .segments) ≡ false → Accepted (withSegment c i s)
   new-accepted i s l e =
-      latest-accepted i _ (any-set tooHigh s (c .segments) i false (le-ltb (2 ^ 23 - 1) (s .start) (omega arith)) (a .low))
+      latest-accepted i _ (any-set tooHigh s (c .segments) i false (le-ltb mostStart (s .start) (omega arith)) (a .low))
       (anyPair-set clash clash-comm s (c .segments) i
-      (any-none (matches (s .start)) (clash s) (c .segments) (λ t z. rw (and-assoc (holds s) (holds t), z) (and-false (holds s))) e)
+      (any-none (matches (s .start)) (clash s) (c .segments)
+      (λ t z. rw (and-assoc (holdsSome s) (holdsSome t), z) (and-false (holdsSome s))) e)
       (a .apart))
 
   pub lookup-accepted : (start sub : ℕ) → start < 2 ^ 23 → Accepted (lookup c start sub .cache)

@@ -1,5 +1,6 @@
--- The instruction cache (scope, "Cache"; 004 section 5.4): what a fetch answers, and the state that it hands back.
--- A state of the type has four segments of eight flags each, and an order of four. Assumes nothing.
+-- The instruction cache (scope, "Cache"; 004 section 5.4): what a fetch answers, and the state that
+-- it hands back. A state of the type has four segments of eight flags each, and an order of four.
+-- Assumes nothing.
 use mathlib.Core.Bool.{Bool, true, false, cond, _||_}
 use mathlib.Core.List.{[], _∷_}
 use Prim.Native.Nat.{ℕ, _/_, _%_, _^_}
@@ -9,39 +10,41 @@ use Rattle.lists.specs.Search.{any, first, anyPair}
 use Rattle.segments.specs.declared.Segment.{Segment}
 use Rattle.order.specs.Order.{badOrder}
 unfoldable pub use Rattle.order.specs.Order.{latest}
-use Rattle.segments.specs.Segments.{tooHigh, clash, matches, noSegment}
+use Rattle.segments.specs.Segments.{segmentCount, flagCount, tooHigh, clash, matches, noSegment}
 use Rattle.cache.specs.declared.Cache.{Cache}
 use Rattle.cache.specs.declared.Kind.{Kind}
-use Rattle.cache.specs.declared.Kind.the-variants.{Hit, SubsegmentMiss, SegmentMiss, Disabled, Refused}
+use Rattle.cache.specs.declared.Kind.the-variants.{Hit, SubsegmentMiss, SegmentMiss}
+use Rattle.cache.specs.declared.Kind.the-variants.{Disabled, Refused}
 use Rattle.cache.specs.declared.Fetched.{Fetched}
 
 -- Refusal 19
 
--- the order isn't a permutation of the four segments, a start address is above 2^23 - 1, or two segments that hold something have the same one
-unfoldable pub refused : Cache → Bool
-refused c = badOrder (c .order) || any tooHigh (c .segments) || anyPair clash (c .segments)
+-- the order isn't a permutation of the four segments, a start address is above 2^23 - 1, or two
+-- segments that hold something have the same one
+unfoldable pub badState : Cache → Bool
+badState c = badOrder (c .order) || any tooHigh (c .segments) || anyPair clash (c .segments)
 
 -- the number that a fetch answers: 19 exactly where its state is refused, else 0 (done)
-abbrev pub refusal : Cache → ℕ
-refusal c = cond (refused c) 19 0
+abbrev pub fetchRefusal : Cache → ℕ
+fetchRefusal c = cond (badState c) 19 0
 
 -- A fetch
 
 -- bits 9-31 of its bit address are a start address
-abbrev pub startOf : ℕ → ℕ
-startOf address = address / 2 ^ 9
+abbrev pub startAddress : ℕ → ℕ
+startAddress address = address / 2 ^ 9
 
 -- bits 6-8 choose the subsegment of 4 words
 abbrev pub subsegmentOf : ℕ → ℕ
 subsegmentOf address = address / 2 ^ 6 % 2 ^ 3
 
 -- segment i becomes s and the latest used
-abbrev pub store : Cache → ℕ → Segment → Cache
-store c i s = record { segments = set (c .segments) i s; order = latest i (c .order) }
+abbrev pub withSegment : Cache → ℕ → Segment → Cache
+withSegment c i s = record { segments = set (c .segments) i s; order = latest i (c .order) }
 
 -- a segment without flags
-abbrev pub empty : ℕ → Segment
-empty start = record { start = start; present = replicate 8 false }
+abbrev pub noFlags : ℕ → Segment
+noFlags start = record { start = start; present = replicate flagCount false }
 
 -- the segment with a flag set
 abbrev pub withFlag : ℕ → Segment → Segment
@@ -53,19 +56,28 @@ segmentAt c i = getD (c .segments) i noSegment
 
 -- hit: the segment becomes the latest used
 abbrev pub hit : Cache → ℕ → Fetched
-hit c i = record { kind = Hit; cache = record { segments = c .segments; order = latest i (c .order) } }
+hit c i =
+    record {
+      kind = Hit;
+      cache = record { segments = c .segments; order = latest i (c .order) };
+    }
 
 -- subsegment miss: also its flag is set
 abbrev pub subsegmentMiss : Cache → ℕ → ℕ → Fetched
-subsegmentMiss c i sub = record { kind = SubsegmentMiss; cache = store c i (withFlag sub (segmentAt c i)) }
+subsegmentMiss c i sub =
+    record { kind = SubsegmentMiss; cache = withSegment c i (withFlag sub (segmentAt c i)) }
 
--- segment miss: the least recently used one gets the new address, loses all flags, gains one, and becomes latest
+-- segment miss: the least recently used one gets the new address, loses all flags, gains one, and
+-- becomes latest
 abbrev pub segmentMiss : Cache → ℕ → ℕ → Fetched
-segmentMiss c start sub = record { kind = SegmentMiss; cache = store c (getD (c .order) 0 0) (withFlag sub (empty start)) }
+segmentMiss c start sub =
+    let oldest = getD (c .order) 0 0 in
+    record { kind = SegmentMiss; cache = withSegment c oldest (withFlag sub (noFlags start)) }
 
 -- a fetch that segment i matches: a hit if it has the flag
 abbrev pub matched : Cache → ℕ → ℕ → Fetched
-matched c i sub = cond (getD (segmentAt c i .present) sub false) (hit c i) (subsegmentMiss c i sub)
+matched c i sub =
+    cond (getD (segmentAt c i .present) sub false) (hit c i) (subsegmentMiss c i sub)
 
 -- a fetch of a subsegment of a start address
 unfoldable pub lookup : Cache → ℕ → ℕ → Fetched
@@ -78,23 +90,24 @@ lookup c start sub =
 abbrev pub disabled : ℕ → Bool
 disabled control = eqb (control / 2 ^ 15 % 2) 1
 
--- with CD 1 every fetch reports disabled and the state stays; a refused state is refused also with CD 1, and stays
+-- with CD 1 every fetch reports disabled and the state stays; a refused state is refused also with
+-- CD 1, and stays
 unfoldable pub fetched : Cache → ℕ → ℕ → Fetched
 fetched c address control =
-    cond (refused c)
+    cond (badState c)
     (record { kind = Refused; cache = c })
     (cond (disabled control)
     (record { kind = Disabled; cache = c })
-    (lookup c (startOf address) (subsegmentOf address)))
+    (lookup c (startAddress address) (subsegmentOf address)))
 
 -- Fresh: no flags, addresses 0, segment 0 least recent and 3 latest
 abbrev pub freshCache : Cache
-freshCache = record { segments = replicate 4 (empty 0); order = 0 ∷ 1 ∷ 2 ∷ 3 ∷ [] }
+freshCache = record { segments = replicate segmentCount (noFlags 0); order = 0 ∷ 1 ∷ 2 ∷ 3 ∷ [] }
 
 -- The answer's number of each kind
-abbrev pub answerOf : Kind → ℕ
-answerOf Hit = 0
-answerOf SubsegmentMiss = 0
-answerOf SegmentMiss = 0
-answerOf Disabled = 0
-answerOf Refused = 19
+abbrev pub fetchAnswer : Kind → ℕ
+fetchAnswer Hit = 0
+fetchAnswer SubsegmentMiss = 0
+fetchAnswer SegmentMiss = 0
+fetchAnswer Disabled = 0
+fetchAnswer Refused = 19

@@ -1,15 +1,20 @@
-// The instruction cache (scope, "Cache"; 004 section 5.4): four segments of eight subsegments, and the order of last use.
-// No public function has a requires: a state that is no cache's is refused with 19 and handed back.
+// The instruction cache (scope, "Cache"; 004 section 5.4): four segments of eight subsegments, and
+// the order of last use. No public function has a requires: a state that is no cache's is refused
+// with 19 and handed back.
 ghost use mathlib.Core.Path.{_≡_};
 ghost use mathlib.Core.Bool.{false};
 ghost use Prim.Native.Nat.{_<_};
-ghost use Rattle.cache.specs.Cache.{refused, refusal, store, lookup, disabled, fetched, freshCache, answerOf};
+ghost use Rattle.segments.specs.Segments.{segmentCount, flagCount};
+ghost use Rattle.cache.specs.Cache.{badState, fetchRefusal, withSegment, lookup, disabled};
+ghost use Rattle.cache.specs.Cache.{fetched, freshCache, fetchAnswer};
+use segments::FLAGS;
+use segments::SEGMENTS;
 use segments::Segment;
 
 // order[0] is the least recently used segment and order[3] the latest.
 pub struct Cache {
-    pub segments: [Segment; 4],
-    pub order: [u8; 4],
+    pub segments: [Segment; SEGMENTS],
+    pub order: [u8; SEGMENTS],
 }
 
 pub enum Kind {
@@ -27,7 +32,7 @@ pub struct Fetched {
 
 // The answer's number: 19, or 0 for done.
 pub fn answer(kind: Kind) -> u32
-    ensures { λ r. ⌜ r ≡ answerOf kind ⌝ }
+    ensures { λ r. ⌜ r ≡ fetchAnswer kind ⌝ }
 {
     match kind {
         Kind::Hit => 0,
@@ -45,21 +50,23 @@ impl Cache {
     {
         let empty = Segment {
             start: 0,
-            present: [false; 8],
+            present: [false; FLAGS],
         };
         Cache {
-            segments: [empty; 4],
+            segments: [empty; SEGMENTS],
             order: [0, 1, 2, 3],
         }
     }
 
-    // A fetch at a bit address under CONTROL: the kind of answer, whose number is 19 exactly where the state is refused, and the next state.
+    // A fetch at a bit address under CONTROL: the kind of answer, whose number is 19 exactly where
+    // the state is refused, and the next state.
     pub fn fetch(self, address: u32, control: u16) -> Fetched
-        ensures { λ r. ⌜ (r ≡ fetched self address control) × (answerOf (r .kind) ≡ refusal self) ⌝ }
+        ensures { λ r. ⌜ (r ≡ fetched self address control)
+            × (fetchAnswer (r .kind) ≡ fetchRefusal self) ⌝ }
     {
-        let refused = self.is_refused();
+        let bad = self.is_bad_state();
         let disabled = is_disabled(control);
-        if refused {
+        if bad {
             return Fetched {
                 kind: Kind::Refused,
                 cache: self,
@@ -77,16 +84,16 @@ impl Cache {
 
     // A fetch of a subsegment of a start address, with the cache enabled.
     fn looked_up(self, start: u32, sub: usize) -> Fetched
-        requires { ⌜ (sub < 8) × (refused self ≡ false) ⌝ }
+        requires { ⌜ (sub < flagCount) × (badState self ≡ false) ⌝ }
         ensures { λ r. ⌜ r ≡ lookup self start sub ⌝ }
     {
         let segments = self.segments;
         let i = segments::place(segments, start);
-        if i < 4 {
+        if i < SEGMENTS {
             let s = segments[i];
             let mut flags = s.present;
             if flags[sub] {
-                let cache = self.stored(i, s);
+                let cache = self.with_segment(i, s);
                 return Fetched {
                     kind: Kind::Hit,
                     cache,
@@ -97,7 +104,7 @@ impl Cache {
                 start: s.start,
                 present: flags,
             };
-            let cache = self.stored(i, t);
+            let cache = self.with_segment(i, t);
             return Fetched {
                 kind: Kind::SubsegmentMiss,
                 cache,
@@ -105,13 +112,13 @@ impl Cache {
         }
         let order = self.order;
         let oldest = order[0] as usize;
-        let mut only = [false; 8];
+        let mut only = [false; FLAGS];
         only[sub] = true;
         let t = Segment {
             start,
             present: only,
         };
-        let cache = self.stored(oldest, t);
+        let cache = self.with_segment(oldest, t);
         Fetched {
             kind: Kind::SegmentMiss,
             cache,
@@ -119,9 +126,9 @@ impl Cache {
     }
 
     // The state with segment i set to s and the latest used.
-    fn stored(self, i: usize, s: Segment) -> Cache
-        requires { ⌜ i < 4 ⌝ }
-        ensures { λ r. ⌜ r ≡ store self i s ⌝ }
+    fn with_segment(self, i: usize, s: Segment) -> Cache
+        requires { ⌜ i < segmentCount ⌝ }
+        ensures { λ r. ⌜ r ≡ withSegment self i s ⌝ }
     {
         let mut segments = self.segments;
         segments[i] = s;
@@ -134,8 +141,8 @@ impl Cache {
     }
 
     // Refusal 19.
-    fn is_refused(self) -> bool
-        ensures { λ r. ⌜ r ≡ refused self ⌝ }
+    fn is_bad_state(self) -> bool
+        ensures { λ r. ⌜ r ≡ badState self ⌝ }
     {
         let order = self.order;
         let segments = self.segments;

@@ -5,7 +5,7 @@ use Rattle.field.specs.Field.{refusal, register, fieldRead}
 use Rattle.timing.specs.Cycles.{caseOf}
 use Rattle.image.specs.Image.{stepped}
 use Rattle.lists.specs.Search.{any, first, anyPair}
-use Rattle.cache.specs.Cache.{refused, latest, lookup, fetched}
+use Rattle.cache.specs.Cache.{badState, latest, lookup, fetched}
 use Rattle.pixel.specs.PixelOp.{operations, processed}
 use Rattle.pixel.specs.Pixel.{pixelOf, result, pixelAfter, withPixel, wordAfter}
 use Rattle.address.specs.Address.{xyAddress, badXYPitch}
@@ -23,7 +23,7 @@ use Rattle.points.specs.Points.{indices}
 use Rattle.figures.specs.Figures.{Figures}
 
 pub figures : Figures
-unfolding bitOf bitAt number refusal register fieldRead caseOf stepped any first anyPair refused latest lookup fetched operations processed pixelOf result pixelAfter withPixel wordAfter xyAddress badXYPitch common clipped addressOf reaches leavesMemory xyDestination lone.refusal dravOf part vAfter destStart srcStart drawingOf refusalOf drawing.refusal outcomeAt outcome count indices
+unfolding bitOf bitAt number refusal register fieldRead caseOf stepped any first anyPair badState latest lookup fetched operations processed pixelOf result pixelAfter withPixel wordAfter xyAddress badXYPitch common clipped addressOf reaches leavesMemory xyDestination lone.refusal dravOf part vAfter destStart srcStart drawingOf refusalOf drawing.refusal outcomeAt outcome count indices
 figures =
     record {
       field = refl;

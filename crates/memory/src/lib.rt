@@ -1,7 +1,6 @@
 // A lent run of 16-bit words: its bits, and the count of bits in which two memories differ.
 ghost use mathlib.Core.Path.{_≡_};
-ghost use mathlib.Core.Bool.{_||_};
-ghost use Prim.Native.Nat.{ℕ, _+_, _*_, _≤_, max};
+ghost use Prim.Native.Nat.{_*_, _≤_, max};
 ghost use lib.ListN.{length, getD};
 ghost use Rattle.memory.specs.Bits.{mostWords, noMemory, bitAt};
 ghost use Rattle.memory.specs.Changed.{differs, changedBits, counted};

@@ -1,5 +1,5 @@
 -- The proofs of specs/Cache.antt. Assumes nothing.
-use Rattle.cache.proofs.FetchLaws as cache
+use Rattle.theorems.proofs.FetchLaws as cache
 use Rattle.theorems.specs.Cache.{FetchAccepted, RefusedExactly, OfCache}
 
 pub fetch-accepted : FetchAccepted

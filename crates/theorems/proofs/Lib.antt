@@ -1,4 +1,6 @@
+pub mod ChangedLaws
 pub mod Memory
+pub mod FetchLaws
 pub mod Cache
 pub mod PixelBitLaws
 pub mod Pixels

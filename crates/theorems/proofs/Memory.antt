@@ -3,10 +3,11 @@ use mathlib.Core.Path.{ap, sym, _∙_}
 use mathlib.Core.List.{List}
 use Rattle.memory.specs.Changed.{changedBits}
 use Rattle.memory.proofs.MemoryLaws as memory
-use Rattle.memory.proofs.ChangedLaws as changed
+use Rattle.memory.proofs.ChangedLaws.{changedBits-same}
 use Rattle.field.proofs.RoundLaws as field
 use Rattle.timing.proofs.CaseLaws as timing
 use Rattle.image.proofs.SeedLaws as image
+use Rattle.theorems.proofs.ChangedLaws.{same-of-changedBits}
 use Rattle.theorems.specs.Memory.{BitsDecide, ChangedDecides, ReadBack, WriteFrame, WriteBack, PastEnd, OneCase, SeedsDiffer, OfMemory}
 
 pub bits-decide : BitsDecide
@@ -14,8 +15,8 @@ bits-decide n m m′ g g′ e = memory.memory-ext g g′ e
 
 pub changed-decides : ChangedDecides
 changed-decides n m m′ g g′ = (
-  changed.same-of-changedBits g g′,
-  λ e. ap (λ (l : List _). changedBits m l) (sym e) ∙ changed.changedBits-same m,
+  same-of-changedBits g g′,
+  λ e. ap (λ (l : List _). changedBits m l) (sym e) ∙ changedBits-same m,
 )
 
 pub read-back : ReadBack

@@ -4,7 +4,7 @@ use mathlib.Core.Path.{_≡_}
 use mathlib.Core.Bool.{true, false}
 use mathlib.Core.Logic.{_↔_}
 use Prim.Native.Nat.{ℕ, _^_, _<_}
-use Rattle.cache.specs.Cache.{refused, refusal, fetched, freshCache, answerOf}
+use Rattle.cache.specs.Cache.{badState, fetchRefusal, fetched, freshCache, fetchAnswer}
 use Rattle.cache.specs.declared.Cache.{Cache}
 use Rattle.cache.specs.declared.Kind.the-variants.{Refused}
 
@@ -12,14 +12,14 @@ use Rattle.cache.specs.declared.Kind.the-variants.{Refused}
 -- So no fetch from a fresh cache is ever refused.
 abbrev pub FetchAccepted : Type 0
 FetchAccepted =
-    (refused freshCache ≡ false)
-    × ((c : Cache) (address control : ℕ) → address < 2 ^ 32 → refused c ≡ false → refused (fetched c address control .cache) ≡ false)
+    (badState freshCache ≡ false)
+    × ((c : Cache) (address control : ℕ) → address < 2 ^ 32 → badState c ≡ false → badState (fetched c address control .cache) ≡ false)
 
 -- A fetch answers 19, as Refused, exactly when the state that it was given is refused, also with CD 1, and 0 otherwise.
 abbrev pub RefusedExactly : Type 0
 RefusedExactly =
     (c : Cache) (address control : ℕ)
-    → (answerOf (fetched c address control .kind) ≡ refusal c) × ((fetched c address control .kind ≡ Refused) ↔ (refused c ≡ true))
+    → (fetchAnswer (fetched c address control .kind) ≡ fetchRefusal c) × ((fetched c address control .kind ≡ Refused) ↔ (badState c ≡ true))
 
 -- every statement of this file
 pub record OfCache : Type 0 where

@@ -8,7 +8,7 @@ use lib.ListN.{length}
 use Rattle.memory.specs.Bits.{noMemory}
 use Rattle.field.specs.Field as field
 use Rattle.image.specs.Image.{imaged}
-use Rattle.cache.specs.Cache.{refused, fetched}
+use Rattle.cache.specs.Cache.{badState, fetched}
 use Rattle.cache.specs.declared.Cache.{Cache}
 use Rattle.cache.specs.declared.Kind.the-variants.{Refused}
 use Rattle.settings.specs.declared.Settings.{Settings}
@@ -72,7 +72,7 @@ abbrev pub ImageRefused : Type 0
 ImageRefused = (m : List ℕ) (seed : ℕ) → noMemory (length m) ≡ true → imaged m seed ≡ m
 
 abbrev pub FetchRefused : Type 0
-FetchRefused = (c : Cache) (address control : ℕ) → refused c ≡ true → fetched c address control ≡ record { kind = Refused; cache = c }
+FetchRefused = (c : Cache) (address control : ℕ) → badState c ≡ true → fetched c address control ≡ record { kind = Refused; cache = c }
 
 -- Reading a plan: the lent table stays.
 abbrev pub PlanRefused : Type 0

@@ -2,10 +2,10 @@
 -- opened once, before the loop, and closed once, after it. A turn lends the generator to `draw` and the memory to `put`, each for a
 -- lifetime that is made for the call, and has them back as the callee says. All that the proof knows of the two is that they meet their
 -- contracts. Assumes nothing.
-use mathlib.Core.Path.{_≡_, refl, sym, _∙_, ap, subst}
+use mathlib.Core.Path.{_≡_, refl, sym, ap, subst}
 use mathlib.Core.Bool.{Bool, true, false}
 use mathlib.Core.WellFounded.{WellFounded, InvImage·wf}
-use Prim.Native.Nat.{ℕ, _+_, _-_, _<_, _≤_, _^_}
+use Prim.Native.Nat.{ℕ, _+_, _-_, _<_, _^_}
 use native.Mathlib.Omega.{arith}
 use mathlib.Core.List.{[], _∷_, List}
 use lib.Dec.{T as Holds, ltb, lit<}
@@ -43,7 +43,7 @@ use denote.Plain.{Nothing, uint-makes, uint-lawful, uint-vals, uint-tells}
 use denote.Builtin.{u16, u64, usize}
 use denote.Ref.{RefT, MutRef}
 use denote.Shadow.{pureI}
-use denote.Slice.{sliceTy, sliceVal, MutSlice, Room, finally, heres, at-slice, codedHoleys, slice-vals, mut-slice-tells}
+use denote.Slice.{sliceTy, sliceVal, MutSlice, Room, heres, at-slice, codedHoleys, slice-vals, mut-slice-tells}
 use denote.Signature.{plain}
 use denote.Steps.{only, owned, peeks, heard, nothing}
 use denote.Struct.Laws.{makes}
@@ -62,7 +62,7 @@ use Rattle.image.specs.Image.{image}
 use Rattle.image.specs.Words.{storedWords}
 use Rattle.generator.proofs.Generator.{the-row, the-type}
 use Rattle.generator.proofs.Generator.Laws.{the-plain, mir as generator}
-use Rattle.generator.proofs.GeneratorLaws.{holding, machine, made, state-lt, machine-of}
+use Rattle.generator.proofs.GeneratorLaws.{holding, machine, made, machine-of}
 use Rattle.generator.proofs.StepLaws.{stepped-lt}
 use Rattle.image.proofs.FillLaws.{Filled, start, turn, finish}
 use Rattle.generator.proofs.draw as draw

@@ -1,11 +1,11 @@
 -- `memory::changed_bits` meets its contract: the count so far is that of the bits below the address reached. Assumes nothing.
 use mathlib.Core.Path.{_≡_, sym, ap, ap₂, _∙_}
-use Prim.Native.Nat.{ℕ, _+_, _-_, _*_, _≤_, max}
+use Prim.Native.Nat.{_+_, _-_, _*_, _≤_, max}
 use native.Mathlib.Numerals.{add-one}
 use native.Mathlib.Omega.{arith}
 use borrow.Author.Needs.{needs}
 use lib.ListN.{length}
-use Rattle.memory.specs.Bits.{wordBits, mostWords, bitAt}
+use Rattle.memory.specs.Bits.{wordBits, mostWords}
 use Rattle.memory.specs.Changed.{differs, differing, changedBits}
 use Rattle.memory.proofs.ChangedLaws.{differs-le, differing-le}
 use Rattle.memory.proofs.changed_bits.Statement.{statement}

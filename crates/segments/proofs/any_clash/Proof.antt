@@ -8,13 +8,15 @@ use Rattle.segments.proofs.any_clash.Tie as tie
 
 returns : tie.Need-returns
 returns c =
-    let d = c .before .before in
-    let b = d .before .before in
-    rw (anyPair-four clash noSegment (b .before .before .before .before .before .before .args .t1) (search needs))
-    (λ i. b .before .clashes .ensures i
-    || b .clashes2 .ensures i
-    || d .before .clashes3 .ensures i
-    || d .clashes4 .ensures i
+    let fourth = c .before .before in
+    let second = fourth .before .before in
+    let read = second .before .before in
+    let half = read .before .before in
+    rw (anyPair-four clash noSegment (half .before .before .args .t1) (search needs))
+    (λ i. second .before .clashes .ensures i
+    || second .clashes2 .ensures i
+    || fourth .before .clashes3 .ensures i
+    || fourth .clashes4 .ensures i
     || c .before .clashes5 .ensures i
     || c .clashes6 .ensures i)
 

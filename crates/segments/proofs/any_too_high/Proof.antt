@@ -2,12 +2,12 @@
 use mathlib.Core.Path.{sym}
 use borrow.Author.Needs.{needs}
 use Rattle.lists.proofs.SearchLaws.{any-anyBelow}
-use Rattle.segments.specs.Segments.{noSegment}
+use Rattle.segments.specs.Segments.{segmentCount, noSegment}
 use Rattle.segments.proofs.any_too_high.Statement.{statement}
 use Rattle.segments.proofs.any_too_high.Tie as tie
 
 returns : tie.Need-returns
-returns c = sym (any-anyBelow _ 4 noSegment _ (search needs))
+returns c = sym (any-anyBelow _ segmentCount noSegment _ (search needs))
 
 pub any-too-high-spec : {M : Type 1} → statement M
 any-too-high-spec =

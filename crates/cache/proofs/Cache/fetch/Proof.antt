@@ -7,23 +7,29 @@ use Rattle.cache.proofs.Cache.fetch.Statement.{statement}
 use Rattle.cache.proofs.Cache.fetch.Tie as tie
 
 returns : tie.Need-returns
-returns c = fetched-answer _ _ _ (sym (fetched-refused _ _ _ (sym (c .before .before .is-refused .ensures) ∙ c .if1 .taken)))
+returns c =
+    let bad = sym (c .before .before .is-bad-state .ensures) ∙ c .if1 .taken in
+    fetched-answer _ _ _ (sym (fetched-refused _ _ _ bad))
 
 returns-2 : tie.Need-returns-2
 returns-2 c =
-    let t = c .before .before in
-    fetched-answer _ _ _
-    (sym (fetched-disabled _ _ _ (sym (t .before .is-refused .ensures) ∙ c .before .if1 .left) (sym (t .is-disabled .ensures) ∙ c .if2 .taken)))
+    let tested = c .before .before in
+    let good = sym (tested .before .is-bad-state .ensures) ∙ c .before .if1 .left in
+    let off = sym (tested .is-disabled .ensures) ∙ c .if2 .taken in
+    fetched-answer _ _ _ (sym (fetched-disabled _ _ _ good off))
 
 looked-up-requires : tie.Need-looked-up-requires
-looked-up-requires c κs = (omega arith, sym (c .before .before .before .is-refused .ensures) ∙ c .before .if1 .left)
+looked-up-requires c κs =
+    let good = c .before in
+    (omega arith, sym (good .before .before .is-bad-state .ensures) ∙ good .if1 .left)
 
 returns-3 : tie.Need-returns-3
 returns-3 c =
-    let t = c .before .before .before in
-    fetched-answer _ _ _
-    (c .looked-up .ensures
-    ∙ sym (fetched-lookup _ _ _ (sym (t .before .is-refused .ensures) ∙ c .before .before .if1 .left) (sym (t .is-disabled .ensures) ∙ c .before .if2 .left)))
+    let enabled = c .before in
+    let tested = enabled .before .before in
+    let good = sym (tested .before .is-bad-state .ensures) ∙ enabled .before .if1 .left in
+    let on = sym (tested .is-disabled .ensures) ∙ enabled .if2 .left in
+    fetched-answer _ _ _ (c .looked-up .ensures ∙ sym (fetched-lookup _ _ _ good on))
 
 pub fetch-spec : {M : Type 1} → statement M
 fetch-spec =

@@ -6,24 +6,30 @@ use Rattle.cache.proofs.Cache.looked_up.Tie as tie
 
 returns : tie.Need-returns
 returns c =
-    let t = c .before .before .before .before in
-    let m = t .before .place .ensures in
-    lookup-hit _ _ _ _ (m .0) (m .1) _ (t .if1 .taken) (c .before .if2 .taken) (c .stored .ensures)
+    let flagged = c .before in
+    let read = flagged .before in
+    let found = read .before .before in
+    let m = found .before .place .ensures in
+    lookup-hit _ _ _ _ (m .0) (m .1) _ (found .if1 .taken) (flagged .if2 .taken) (c .with-segment .ensures)
 
 returns-2 : tie.Need-returns-2
 returns-2 c =
-    let t = c .before .before .before .before in
-    let m = t .before .place .ensures in
-    lookup-part _ _ _ _ (m .0) (m .1) _ (t .if1 .taken) (c .before .if2 .left) (c .stored2 .ensures)
+    let unflagged = c .before in
+    let read = unflagged .before in
+    let found = read .before .before in
+    let m = found .before .place .ensures in
+    lookup-part _ _ _ _ (m .0) (m .1) _ (found .if1 .taken) (unflagged .if2 .left) (c .with-segment2 .ensures)
 
-stored-requires-3 : tie.Need-stored-requires-3
-stored-requires-3 c κs = order-lt _ _ (c .before .before .before .before .pre .1)
+with-segment-requires-3 : tie.Need-with-segment-requires-3
+with-segment-requires-3 c κs =
+    let missed = c .before .before in
+    order-lt _ _ (missed .before .before .pre .1)
 
 returns-3 : tie.Need-returns-3
 returns-3 c =
-    let t = c .before .before in
-    let m = t .before .place .ensures in
-    lookup-miss _ _ _ _ (m .0) (m .1) _ (t .if1 .left) (c .stored3 .ensures)
+    let missed = c .before .before in
+    let m = missed .before .place .ensures in
+    lookup-miss _ _ _ _ (m .0) (m .1) _ (missed .if1 .left) (c .with-segment3 .ensures)
 
 pub looked-up-spec : {M : Type 1} → statement M
 looked-up-spec =
@@ -41,5 +47,5 @@ looked-up-spec =
     (λ c. search needs)
     (λ c. search needs)
     (λ c. search needs)
-    stored-requires-3
+    with-segment-requires-3
     returns-3)
