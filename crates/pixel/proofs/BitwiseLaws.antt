@@ -25,7 +25,7 @@ module _ (x y j : ℕ) where
   unfolding bitOf
   bit-or = ap (λ (z : ℕ). z % 2) (or-shr x y j) ∙ or-mod (x / 2 ^ j) (y / 2 ^ j) 1
 
-  pub bit-xor : bitOf (bitXor x y) j ≡ bitXor (bitOf x j) (bitOf y j)
+  bit-xor : bitOf (bitXor x y) j ≡ bitXor (bitOf x j) (bitOf y j)
   unfolding bitOf
   bit-xor = ap (λ (z : ℕ). z % 2) (xor-shr x y j) ∙ xor-mod (x / 2 ^ j) (y / 2 ^ j) 1
 
@@ -33,7 +33,7 @@ pub and-one : {x : ℕ} → x < 2 → bitAnd x 1 ≡ x
 and-one {x} h = and-mask x 1 ∙ mod-eq-of-lt h
 
 -- ---- masked twice is masked
-pub and-and : (x y : ℕ) → bitAnd (bitAnd x y) y ≡ bitAnd x y
+and-and : (x y : ℕ) → bitAnd (bitAnd x y) y ≡ bitAnd x y
 and-and x =
     bin-ind (λ (n : ℕ). (y : ℕ) → bitAnd (bitAnd n y) y ≡ bitAnd n y) (λ y. refl)
     (λ n ih y.
@@ -50,7 +50,7 @@ and-and x =
 pub complement-le : (x top : ℕ) → complement top (bitAnd x top) ≤ top
 complement-le x top = omega (arith, xor-add-and (bitAnd x top) top, and-and x top)
 
-pub bit-ones : (p j : ℕ) → j < p → bitOf (2 ^ p - 1) j ≡ 1
+bit-ones : (p j : ℕ) → j < p → bitOf (2 ^ p - 1) j ≡ 1
 unfolding bitOf
 bit-ones p j h =
     let e : (p - (j + 1) + 1) + j ≡ p = omega arith in

@@ -63,5 +63,10 @@ module _ (pp : ℕ) (t : Bool) (p pmask a : ℕ) (fit : a % 16 + p ≤ 16) where
       touched : (j : ℕ) → j < p → bitOf (pixelOf (2 ^ p - 1) pmask a) j ≡ 0 → Touched p pmask a (a + j)
       touched j hj z = record { from = omega arith; to = omega arith; unmasked = sym (bit-pixelOf-place p a fit j hj pmask) ∙ z }
 
-      pixels : Alike p (pixelOf (2 ^ p - 1) pmask a) (pixelOf (2 ^ p - 1) (getD m (a / 16) 0) a) (pixelOf (2 ^ p - 1) (getD m′ (a / 16) 0) a)
-      pixels = record { same = λ j hj z. bit-pixelOf-bitAt p a fit j hj m ∙ hm (a + j) (touched j hj z) ∙ sym (bit-pixelOf-bitAt p a fit j hj m′) }
+      pixels : Alike p (pixelOf (2 ^ p - 1) pmask a) (pixelOf (2 ^ p - 1) (getD m (a / 16) 0) a)
+          (pixelOf (2 ^ p - 1) (getD m′ (a / 16) 0) a)
+      pixels =
+          record {
+            same = λ j hj z. bit-pixelOf-bitAt p a fit j hj m ∙ hm (a + j) (touched j hj z)
+                ∙ sym (bit-pixelOf-bitAt p a fit j hj m′);
+          }

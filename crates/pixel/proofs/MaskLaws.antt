@@ -1,5 +1,5 @@
--- What a mask does to a pixel of P bits, whatever the operation and with or without transparency: masked bits stay, and the others depend on
--- unmasked bits alone. No contract cites this file. Assumes nothing.
+-- What a mask does to a pixel of P bits, whatever the operation and with or without transparency: masked bits stay, and the others depend
+-- on unmasked bits alone. No contract cites this file. Assumes nothing.
 use mathlib.Core.Path.{_≡_, refl, sym, ap, ap₂, _∙_}
 use mathlib.Core.Logic.{⊎-elim}
 use mathlib.Core.Bool.{Bool, true, false, cond, _&&_}
@@ -26,11 +26,13 @@ module _ (pp : ℕ) (t : Bool) (p mask s d j : ℕ) where
   r : ℕ
   r = result pp (2 ^ p - 1) mask s d
 
-  bit-pixelAfter : bitOf (pixelAfter pp t (2 ^ p - 1) mask s d) j ≡ cond (t && eqb r 0) (bitOf d j) (bitOr (bitAnd (bitOf d j) (bitOf mask j)) (bitOf r j))
+  bit-pixelAfter : bitOf (pixelAfter pp t (2 ^ p - 1) mask s d) j
+      ≡ cond (t && eqb r 0) (bitOf d j) (bitOr (bitAnd (bitOf d j) (bitOf mask j)) (bitOf r j))
   unfolding pixelAfter r
   bit-pixelAfter = go (t && eqb r 0)
     where
-      go : (u : Bool) → bitOf (cond u d (bitOr (bitAnd d mask) r)) j ≡ cond u (bitOf d j) (bitOr (bitAnd (bitOf d j) (bitOf mask j)) (bitOf r j))
+      go : (u : Bool)
+          → bitOf (cond u d (bitOr (bitAnd d mask) r)) j ≡ cond u (bitOf d j) (bitOr (bitAnd (bitOf d j) (bitOf mask j)) (bitOf r j))
       go true = refl
       go false = bit-or (bitAnd d mask) r j ∙ ap (λ (x : ℕ). bitOr x (bitOf r j)) (bit-and d mask j)
 
@@ -49,9 +51,12 @@ module _ (pp : ℕ) (t : Bool) (p mask s d j : ℕ) where
 
   -- an unmasked bit is the result's, or stays
   pub bit-open : bitOf mask j ≡ 0
-      → bitOf (pixelAfter pp t (2 ^ p - 1) mask s d) j ≡ cond (t && eqb (result pp (2 ^ p - 1) mask s d) 0) (bitOf d j) (bitOf (result pp (2 ^ p - 1) mask s d) j)
+      → bitOf (pixelAfter pp t (2 ^ p - 1) mask s d) j
+      ≡ cond (t && eqb (result pp (2 ^ p - 1) mask s d) 0) (bitOf d j) (bitOf (result pp (2 ^ p - 1) mask s d) j)
   unfolding r
-  bit-open e = bit-pixelAfter ∙ ap (λ (x : ℕ). cond (t && eqb r 0) (bitOf d j) (bitOr x (bitOf r j))) (ap (bitAnd (bitOf d j)) e ∙ and-zero-r (bitOf d j))
+  bit-open e =
+      bit-pixelAfter
+      ∙ ap (λ (x : ℕ). cond (t && eqb r 0) (bitOf d j) (bitOr x (bitOf r j))) (ap (bitAnd (bitOf d j)) e ∙ and-zero-r (bitOf d j))
 
 -- ---- pixels that agree on the unmasked bits
 pub record Alike (p mask x y : ℕ) : Type 0 where
@@ -61,14 +66,19 @@ module _ (p mask : ℕ) (hm : mask < 2 ^ p) where
   unmasked-alike : {x y : ℕ} → Alike p mask x y → unmasked (2 ^ p - 1) mask x ≡ unmasked (2 ^ p - 1) mask y
   unmasked-alike {x} {y} h =
       bits-ext p _ _ (unmasked-lt p mask hm x) (unmasked-lt p mask hm y)
-      (λ j hj. ⊎-elim (opened j hj) (λ e. unmasked-masked p mask j hj x e ∙ sym (unmasked-masked p mask j hj y e)) (bit-cases (bit-lt mask j)))
+      (λ j hj. ⊎-elim (opened j hj)
+      (λ e. unmasked-masked p mask j hj x e ∙ sym (unmasked-masked p mask j hj y e)) (bit-cases (bit-lt mask j)))
     where
       opened : (j : ℕ) → j < p → bitOf mask j ≡ 0 → bitOf (unmasked (2 ^ p - 1) mask x) j ≡ bitOf (unmasked (2 ^ p - 1) mask y) j
-      opened j hj e = bit-unmasked p mask j hj x ∙ ap (λ (z : ℕ). bitAnd z (bitXor (bitOf mask j) 1)) (h .same j hj e) ∙ sym (bit-unmasked p mask j hj y)
+      opened j hj e =
+          bit-unmasked p mask j hj x ∙ ap (λ (z : ℕ). bitAnd z (bitXor (bitOf mask j) 1)) (h .same j hj e)
+          ∙ sym (bit-unmasked p mask j hj y)
 
-  pub result-alike : (pp : ℕ) {s s′ d d′ : ℕ} → Alike p mask s s′ → Alike p mask d d′ → result pp (2 ^ p - 1) mask s d ≡ result pp (2 ^ p - 1) mask s′ d′
+  result-alike : (pp : ℕ) {s s′ d d′ : ℕ} → Alike p mask s s′ → Alike p mask d d′
+      → result pp (2 ^ p - 1) mask s d ≡ result pp (2 ^ p - 1) mask s′ d′
   unfolding result
-  result-alike pp hs hd = ap₂ (λ (x y : ℕ). unmasked (2 ^ p - 1) mask (processed pp (2 ^ p - 1) x y)) (unmasked-alike hs) (unmasked-alike hd)
+  result-alike pp hs hd =
+      ap₂ (λ (x y : ℕ). unmasked (2 ^ p - 1) mask (processed pp (2 ^ p - 1) x y)) (unmasked-alike hs) (unmasked-alike hd)
 
   -- the unmasked bits of a pixel drawn depend on those of its source and of the pixel before, and on nothing else
   pub pixelAfter-alike : (pp : ℕ) (t : Bool) {s s′ d d′ : ℕ} → Alike p mask s s′ → Alike p mask d d′

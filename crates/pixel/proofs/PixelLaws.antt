@@ -38,7 +38,7 @@ module _ (p w a : ℕ) where
   pub pixelOf-lt : pixelOf (2 ^ p - 1) w a < 2 ^ p
   pixelOf-lt = rw pixelOf-mod (mod-lt (w / 2 ^ (a % 16)) (pow-pos p))
 
-  pub bit-pixelOf : (j : ℕ) → j < p → bitOf (pixelOf (2 ^ p - 1) w a) j ≡ bitOf w (a % 16 + j)
+  bit-pixelOf : (j : ℕ) → j < p → bitOf (pixelOf (2 ^ p - 1) w a) j ≡ bitOf w (a % 16 + j)
   bit-pixelOf j h = ap (λ (x : ℕ). bitOf x j) pixelOf-mod ∙ bit-mod (w / 2 ^ (a % 16)) p j h ∙ bit-div w (a % 16) j
 
 -- bit j of a pixel that lies in one word, by its bit address
@@ -55,7 +55,7 @@ module _ (p a : ℕ) (fit : a % 16 + p ≤ 16) (j : ℕ) (hj : j < p) where
       bit-pixelOf-place (getD m (a / 16) 0) ∙ ap (λ (i : ℕ). bitOf (getD m i 0) ((a + j) % 16)) q
 
 -- a pixel put into a word is P bits put in at its place
-pub withPixel-withBits : (p w a v : ℕ) → a % 16 + p ≤ 16 → w < 2 ^ 16 → v < 2 ^ p → withPixel (2 ^ p - 1) w a v ≡ withBits w (a % 16) p v
+withPixel-withBits : (p w a v : ℕ) → a % 16 + p ≤ 16 → w < 2 ^ 16 → v < 2 ^ p → withPixel (2 ^ p - 1) w a v ≡ withBits w (a % 16) p v
 unfolding withPixel
 withPixel-withBits p w a v fit hw hv =
     ap₂ (λ (x y : ℕ). (w - x * 2 ^ (a % 16) + y * 2 ^ (a % 16)) % 2 ^ 16) (pixelOf-mod p w a) (sym (mod-eq-of-lt hv))
@@ -67,11 +67,11 @@ module _ (p mask : ℕ) (hm : mask < 2 ^ p) where
   pub unmasked-lt : (x : ℕ) → unmasked (2 ^ p - 1) mask x < 2 ^ p
   unmasked-lt x = omega (arith, and-le-r x (complement (2 ^ p - 1) mask), xor-lt p mask (2 ^ p - 1) hm (ones-lt p))
 
-  pub result-lt : (pp s d : ℕ) → result pp (2 ^ p - 1) mask s d < 2 ^ p
+  result-lt : (pp s d : ℕ) → result pp (2 ^ p - 1) mask s d < 2 ^ p
   unfolding result
   result-lt pp s d = unmasked-lt (processed pp (2 ^ p - 1) (unmasked (2 ^ p - 1) mask s) (unmasked (2 ^ p - 1) mask d))
 
-  pub pixelAfter-lt : (pp : ℕ) (t : Bool) (s d : ℕ) → d < 2 ^ p → pixelAfter pp t (2 ^ p - 1) mask s d < 2 ^ p
+  pixelAfter-lt : (pp : ℕ) (t : Bool) (s d : ℕ) → d < 2 ^ p → pixelAfter pp t (2 ^ p - 1) mask s d < 2 ^ p
   unfolding pixelAfter
   pixelAfter-lt pp t s d hd = go (t && eqb (result pp (2 ^ p - 1) mask s d) 0)
     where
@@ -80,7 +80,7 @@ module _ (p mask : ℕ) (hm : mask < 2 ^ p) where
       go false = or-lt p (bitAnd d mask) (result pp (2 ^ p - 1) mask s d) (omega (arith, and-le-l d mask)) (result-lt pp s d)
 
 module _ (pp : ℕ) (t : Bool) (top pmask a s : ℕ) where
-  pub wordAfter-lt : (w : ℕ) → wordAfter pp t top pmask a s w < 2 ^ 16
+  wordAfter-lt : (w : ℕ) → wordAfter pp t top pmask a s w < 2 ^ 16
   unfolding wordAfter withPixel
   wordAfter-lt w = mod-lt _ (pow-pos 16)
 
@@ -98,8 +98,9 @@ abbrev pub drawn : ℕ → Bool → ℕ → ℕ → ℕ → ℕ → ℕ → ℕ
 drawn pp t top pmask a s w = pixelAfter pp t top (pixelOf top pmask a) s (pixelOf top w a)
 
 module _ (pp : ℕ) (t : Bool) (p pmask a : ℕ) (fit : a % 16 + p ≤ 16) (s : ℕ) where
-  pub bit-wordAfter : (w j : ℕ) → w < 2 ^ 16
-      → bitOf (wordAfter pp t (2 ^ p - 1) pmask a s w) j ≡ cond (within (a % 16) p j) (bitOf (drawn pp t (2 ^ p - 1) pmask a s w) (j - a % 16)) (bitOf w j)
+  bit-wordAfter : (w j : ℕ) → w < 2 ^ 16
+      → bitOf (wordAfter pp t (2 ^ p - 1) pmask a s w) j
+      ≡ cond (within (a % 16) p j) (bitOf (drawn pp t (2 ^ p - 1) pmask a s w) (j - a % 16)) (bitOf w j)
   unfolding wordAfter
   bit-wordAfter w j hw =
       ap (λ (x : ℕ). bitOf x j) (withPixel-withBits p w a _ fit hw (pixelAfter-lt p _ (pixelOf-lt p pmask a) pp t s _ (pixelOf-lt p w a)))

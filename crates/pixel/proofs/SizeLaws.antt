@@ -27,7 +27,8 @@ size-le = by-size (λ p. p ≤ 16) (omega arith) (omega arith) (omega arith) (om
 -- a pixel whose address is a multiple of its size lies in one word
 pub aligned-fits : (p : ℕ) → badPixelSize p ≡ false → (a : ℕ) → a % p ≡ 0 → a % 16 + p ≤ 16
 aligned-fits =
-    by-size (λ p. (a : ℕ) → a % p ≡ 0 → a % 16 + p ≤ 16) (λ a h. omega arith) (λ a h. omega arith) (λ a h. omega arith) (λ a h. omega arith) (λ a h. omega arith)
+    by-size (λ p. (a : ℕ) → a % p ≡ 0 → a % 16 + p ≤ 16) (λ a h. omega arith) (λ a h. omega arith) (λ a h. omega arith)
+    (λ a h. omega arith) (λ a h. omega arith)
 
 pub topOf-ones : (p : ℕ) → p ≤ 16 → topOf p ≡ 2 ^ p - 1
 topOf-ones p h = ap (λ (k : ℕ). 2 ^ k - 1) (min-eq-left h)

@@ -1,5 +1,5 @@
--- The pixel operations (the scope, "One pixel"; 002 section 7.7), over pixels of P bits, of which top = 2^P - 1 is the greatest.
--- Assumes nothing.
+-- The pixel operations (the scope, "One pixel"; 002 section 7.7), over pixels of P bits, of which
+-- top = 2^P - 1 is the greatest. Assumes nothing.
 use mathlib.Core.List.{List, [], _∷_}
 use Prim.Native.Nat.{ℕ, suc, _+_, _-_, _%_, min, max}
 use lib.Bits.{bitAnd, bitOr, bitXor}
@@ -15,13 +15,16 @@ operations top s d =
     -- S; S and D; S and not D; 0
     s ∷ bitAnd s d ∷ bitAnd s (complement top d) ∷ 0
     -- S or not D; S xnor D; not D; S nor D
-    ∷ bitOr s (complement top d) ∷ complement top (bitXor s d) ∷ complement top d ∷ complement top (bitOr s d)
+    ∷ bitOr s (complement top d) ∷ complement top (bitXor s d)
+    ∷ complement top d ∷ complement top (bitOr s d)
     -- S or D; D; S xor D; not S and D
     ∷ bitOr s d ∷ d ∷ bitXor s d ∷ bitAnd (complement top s) d
     -- all ones; not S or D; S nand D; not S
     ∷ top ∷ bitOr (complement top s) d ∷ complement top (bitAnd s d) ∷ complement top s
-    -- S + D mod 2^P; the lesser of S + D and top; D - S mod 2^P; D - S, or 0 if negative; greater; lesser
-    ∷ ((s + d) % suc top) ∷ min (s + d) top ∷ ((d + suc top - s) % suc top) ∷ (d - s) ∷ max s d ∷ min s d
+    -- S + D mod 2^P; the lesser of S + D and top
+    ∷ ((s + d) % suc top) ∷ min (s + d) top
+    -- D - S mod 2^P; D - S, or 0 if negative; greater; lesser
+    ∷ ((d + suc top - s) % suc top) ∷ (d - s) ∷ max s d ∷ min s d
     ∷ []
 
 -- the operation PP applied

@@ -1,5 +1,6 @@
-// The settings that decide a pixel, and the pixel of a word. A pixel of P bits is given by top, the greatest of them, and its place in a
-// word by its bit address. No public function asks anything of its arguments.
+// The settings that decide a pixel, and the pixel of a word. A pixel of P bits is given by top, the
+// greatest of them, and its place in a word by its bit address. No public function asks anything of
+// its arguments.
 ghost use mathlib.Core.Path.{_≡_};
 ghost use Rattle.pixel.specs.Control.{transparency, windowing, processing, badControl};
 ghost use Rattle.pixel.specs.Pixel.{badPixelSize, topOf, pixelOf};

@@ -5,15 +5,9 @@ use Rattle.pixel.specs.Pixel.{pixelOf}
 use Rattle.pixel.proofs.pixel_of.Statement.{statement}
 use Rattle.pixel.proofs.pixel_of.Tie as tie
 
-cast-result : tie.Need-cast-result
-cast-result c = search needs
-
-shr-result : tie.Need-shr-result
-shr-result c = search needs
-
 returns : tie.Need-returns
 unfolding pixelOf
 returns c = refl
 
 pub pixel-of-spec : {M : Type 1} → statement M
-pixel-of-spec = tie.close (tie.spec cast-result shr-result returns)
+pixel-of-spec = tie.close (tie.spec (λ c. search needs) (λ c. search needs) returns)

@@ -9,9 +9,6 @@ use Rattle.pixel.proofs.SizeLaws.{topOf-ones}
 use Rattle.pixel.proofs.top_of.Statement.{statement}
 use Rattle.pixel.proofs.top_of.Tie as tie
 
-shl-result : tie.Need-shl-result
-shl-result c = search needs
-
 -- the shift loses nothing
 shifted : (c : tie.Then1) → 1 * 2 ^ c .before .args .psize % 2 ^ 16 ≡ 2 ^ c .before .args .psize
 shifted c = omega (arith, pow-lt (c .if1 .taken))
@@ -26,4 +23,4 @@ returns-2 : tie.Need-returns-2
 returns-2 c = rw (min-eq-right {n = 16} {m = c .before .args .psize} (omega arith))
 
 pub top-of-spec : {M : Type 1} → statement M
-top-of-spec = tie.close (tie.spec shl-result sub-result returns returns-2)
+top-of-spec = tie.close (tie.spec (λ c. search needs) sub-result returns returns-2)
