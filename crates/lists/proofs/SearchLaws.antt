@@ -145,7 +145,7 @@ anyPair-snoc r s x (y ∷ l) =
 
 -- Two lists joined
 
-any-append : {A : Type 0} (p : A → Bool) (l m : List A) → any p (l ++ m) ≡ (any p l || any p m)
+pub any-append : {A : Type 0} (p : A → Bool) (l m : List A) → any p (l ++ m) ≡ (any p l || any p m)
 unfolding any
 any-append p [] m = refl
 any-append p (x ∷ l) m = rw (any-append p l m) (sym (or-assoc (p x) _ _))

@@ -53,7 +53,8 @@ module _ (line : List ℕ) (p e : ℕ) (is : e ≡ p + length (upTo 9 (drop p li
   unfolding first
   first-here q t = rw (fieldsFrom-cons, t)
 
-  pub first-next : (q : List ℕ → Bool) → q (take (e - p) (drop p line)) ≡ false → first q (fieldsFrom line p) ≡ suc (first q (fieldsFrom line (e + 1)))
+  pub first-next : (q : List ℕ → Bool) → q (take (e - p) (drop p line)) ≡ false
+      → first q (fieldsFrom line p) ≡ suc (first q (fieldsFrom line (e + 1)))
   unfolding first
   first-next q t = rw (fieldsFrom-cons, t)
 
@@ -73,10 +74,10 @@ module _ (line : List ℕ) (p : ℕ) where
       (rw (fieldsFrom-past line p l, n), rw (fieldsFrom-past line p l) (fieldsFrom-past line _ (omega (arith, l))))
 
   -- the field there: empty past the line's end
-  pub getD-fieldsFrom : getD (fieldsFrom line p) 0 [] ≡ upTo 9 (drop p line)
+  getD-fieldsFrom : getD (fieldsFrom line p) 0 [] ≡ upTo 9 (drop p line)
   getD-fieldsFrom = at-place _ refl .0
 
-  pub fieldsFrom-behind : fieldsFrom line (behind line p) ≡ drop 1 (fieldsFrom line p)
+  fieldsFrom-behind : fieldsFrom line (behind line p) ≡ drop 1 (fieldsFrom line p)
   fieldsFrom-behind = at-place _ refl .1
 
 -- The first three fields
@@ -86,7 +87,9 @@ module _ (line : List ℕ) where
   first-field = sym (getD-fieldsFrom line 0) ∙ ap (λ (fs : List (List ℕ)). getD fs 0 []) (fieldsFrom-zero line)
 
   pub second-field : upTo 9 (drop (behind line 0) line) ≡ getD (fieldsOf line) 1 []
-  second-field = sym (getD-fieldsFrom line (behind line 0)) ∙ rw (fieldsFrom-behind line 0, fieldsFrom-zero line) (getD-drop 1 (fieldsOf line) 0 [])
+  second-field =
+      sym (getD-fieldsFrom line (behind line 0)) ∙ rw (fieldsFrom-behind line 0, fieldsFrom-zero line) (getD-drop 1 (fieldsOf line) 0 [])
 
   pub fieldsFrom-thirdAt : fieldsFrom line (thirdAt line) ≡ drop 2 (fieldsOf line)
-  fieldsFrom-thirdAt = rw (fieldsFrom-behind line (behind line 0), fieldsFrom-behind line 0, fieldsFrom-zero line) (drop-drop 1 1 (fieldsOf line))
+  fieldsFrom-thirdAt =
+      rw (fieldsFrom-behind line (behind line 0), fieldsFrom-behind line 0, fieldsFrom-zero line) (drop-drop 1 1 (fieldsOf line))

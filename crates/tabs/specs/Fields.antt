@@ -1,4 +1,5 @@
--- The fields of a line from a place on, which a loop over the line's fields comes to. The scope knows nothing of places. A field as a number. Assumes nothing.
+-- The fields of a line from a place on, which a loop over the line's fields comes to, and a field
+-- as a number. The scope knows nothing of places. Assumes nothing.
 use mathlib.Core.Bool.{Bool, cond}
 use mathlib.Core.List.{List, []}
 use Prim.Native.Nat.{ℕ, _+_}

@@ -12,7 +12,8 @@ use text::Number;
 
 // The second field, as that part of the line: empty where there is none.
 pub fn second(line: &[u8]) -> &[u8]
-    ensures { λ r. ⌜ (now r ≡ getD (fieldsOf (now (line .entry))) 1 []) × PartOf (line .entry) r (behind (now (line .entry)) 0) 9 ⌝ }
+    ensures { λ r. let l = now (line .entry) in
+        ⌜ (now r ≡ getD (fieldsOf l) 1 []) × PartOf (line .entry) r (behind l 0) 9 ⌝ }
 {
     text::part(line, behind(line, 0), 9)
 }

@@ -16,5 +16,6 @@ any-map p f [] = refl
 any-map p f (x ∷ l) = rw (any-map p f l)
 
 -- at or above a limit is above the greatest value below it
-pub any-above : (most limit : ℕ) (fs : List (List ℕ)) → most + 1 ≡ limit → any (leb limit) (map fieldValue fs) ≡ any (passes (Above most)) fs
+pub any-above : (most limit : ℕ) (fs : List (List ℕ)) → most + 1 ≡ limit
+    → any (leb limit) (map fieldValue fs) ≡ any (passes (Above most)) fs
 any-above most limit fs e = rw (← e, add-one) (any-map (ltb most) fieldValue fs)

@@ -6,9 +6,8 @@ use lib.ListN.{length, take, replicate}
 use Rattle.lists.specs.Search.{any}
 use Rattle.values.specs.declared.Block.{Block}
 use Rattle.values.specs.declared.Test.the-variants.{Above}
-use Rattle.tabs.specs.Fields.{fieldValue, noNumber}
+use Rattle.tabs.specs.Fields.{fieldsFrom, fieldValue, noNumber}
 use Rattle.values.specs.Tests.{passes}
-use Rattle.tabs.specs.Fields.{fieldsFrom}
 
 -- the values from a place on
 abbrev pub valuesFrom : List ℕ → ℕ → List ℕ
@@ -19,14 +18,19 @@ abbrev pub widths : List (List ℕ) → ℕ
 widths [] = 0
 widths (f ∷ fs) = length f + 1 + widths fs
 
+-- the values of a block: as many as an axis may have, so that a good line is read in one block
+abbrev pub blockSize : ℕ
+blockSize = 64
+
 -- the first 64 fields from a place on
 abbrev pub blockOf : List ℕ → ℕ → List (List ℕ)
-blockOf line from = take 64 (fieldsFrom line from)
+blockOf line from = take blockSize (fieldsFrom line from)
 
--- a block has the first 64 values from a place on, and zeros behind them; where the next field starts; is one of its fields no number; is
--- one of its values above the greatest that is good?
+-- a block has the first 64 values from a place on, and zeros behind them; where the next field
+-- starts; is one of its fields no number; is one of its values above the greatest that is good?
 pub record BlockAt (line : List ℕ) (from most : ℕ) (b : Block) : Type 0 where
-  pub values-are : b .values ≡ map fieldValue (blockOf line from) ++ replicate (64 - b .count) 0
+  pub values-are : b .values
+      ≡ map fieldValue (blockOf line from) ++ replicate (blockSize - b .count) 0
   pub count-is : b .count ≡ length (blockOf line from)
   pub behind-is : b .behind ≡ from + widths (blockOf line from)
   pub bad-is : b .bad ≡ any noNumber (blockOf line from)

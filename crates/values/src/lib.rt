@@ -28,7 +28,8 @@ pub fn any_field(line: &[u8], from: usize, test: Test) -> bool
     false
 }
 
-// Does some value stand twice among those from a place on? Block by block: in the block, or in it and behind it.
+// Does some value stand twice among those from a place on? Block by block: in the block, or in it
+// and behind it.
 pub fn any_twice(line: &[u8], from: usize) -> bool
     ensures { λ r. ⌜ r ≡ anyPair eqb (map fieldValue (fieldsFrom (now (line .entry)) from)) ⌝ }
 {
@@ -48,25 +49,29 @@ pub fn any_twice(line: &[u8], from: usize) -> bool
     false
 }
 
-// Values of a line, read once: so many of them, the place behind them, is some field no number, and is some value above a given one?
+// The values of a block: as many as an axis may have.
+pub const BLOCK: usize = 64;
+
+// Values of a line, read once: so many of them, the place behind them, is some field no number, and
+// is some value above a given one?
 pub struct Block {
-    pub values: [u64; 64],
+    pub values: [u64; BLOCK],
     pub count: usize,
     pub behind: usize,
     pub bad: bool,
     pub above: bool,
 }
 
-// The values from a place on, at most 64, against the greatest that is good.
+// The values from a place on, at most a block of them, against the greatest that is good.
 pub fn block_at(line: &[u8], from: usize, most: u64) -> Block
     ensures { λ r. ⌜ BlockAt (now (line .entry)) from most r ⌝ }
 {
-    let mut values = [0; 64];
+    let mut values = [0; BLOCK];
     let mut count = 0;
     let mut p = from;
     let mut bad = false;
     let mut above = false;
-    while (count < 64) & (p <= line.len()) {
+    while (count < BLOCK) & (p <= line.len()) {
         let end = text::part_end(line, p, 9);
         let number = text::parse(&line[p..end]);
         let v = tabs::value_of(number);
@@ -102,7 +107,8 @@ pub fn any_same(held: &[u64]) -> bool
 
 // Is some value from a place on among the numbers held?
 pub fn any_among(line: &[u8], from: usize, held: &[u64]) -> bool
-    ensures { λ r. ⌜ r ≡ any (λ f. any (eqb (fieldValue f)) (now (held .entry))) (fieldsFrom (now (line .entry)) from) ⌝ }
+    ensures { λ r. let fields = fieldsFrom (now (line .entry)) from in
+        ⌜ r ≡ any (λ f. any (eqb (fieldValue f)) (now (held .entry))) fields ⌝ }
 {
     let mut p = from;
     while p <= line.len() {

@@ -8,9 +8,6 @@ use Rattle.tabs.specs.Fields.{behind}
 use Rattle.tabs.proofs.behind.Statement.{statement}
 use Rattle.tabs.proofs.behind.Tie as tie
 
-part-end-requires : tie.Need-part-end-requires
-part-end-requires c κs = search needs
-
 add-result : tie.Need-add-result
 add-result c =
     let a = c .before .before .args in
@@ -21,4 +18,4 @@ unfolding behind
 returns c = rw (c .part-end .ensures)
 
 pub behind-spec : {M : Type 1} → statement M
-behind-spec = tie.close (tie.spec part-end-requires add-result returns)
+behind-spec = tie.close (tie.spec (λ c κs. search needs) add-result returns)

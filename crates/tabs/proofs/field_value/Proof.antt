@@ -5,14 +5,8 @@ use Rattle.text.specs.Number.{valueOf}
 use Rattle.tabs.proofs.field_value.Statement.{statement}
 use Rattle.tabs.proofs.field_value.Tie as tie
 
-parse-requires : tie.Need-parse-requires
-parse-requires c κs = search needs
-
-value-of-requires : tie.Need-value-of-requires
-value-of-requires c κs = search needs
-
 returns : tie.Need-returns
 returns c = c .value-of .ensures ∙ ap valueOf (c .before .parse .ensures)
 
 pub field-value-spec : {M : Type 1} → statement M
-field-value-spec = tie.close (tie.spec parse-requires value-of-requires returns)
+field-value-spec = tie.close (tie.spec (λ c κs. search needs) (λ c κs. search needs) returns)

@@ -1,4 +1,4 @@
--- `tabs::index_of` meets its contract. The invariant: the search among all the fields is past as many as it passed, and goes on among the fields left.
+-- `tabs::index_of` meets its contract. The invariant: the search among all the fields passed so many, and goes on among those left.
 use mathlib.Core.Path.{_≡_, sym, _∙_}
 use Prim.Native.Nat.{_+_, _-_, _≤_}
 use native.Mathlib.Omega.{arith}
@@ -22,43 +22,36 @@ abbrev μ-loop : tie.MeasureT-loop
 loop-holds : tie.Need-loop-holds Inv-loop μ-loop
 loop-holds c = (omega arith, rw (fieldsFrom-zero _) (omega arith))
 
-part-end-requires : tie.Need-part-end-requires Inv-loop μ-loop
-part-end-requires c κs = search needs
-
-sub-same : tie.Need-sub-same Inv-loop μ-loop
-sub-same c = omega arith
-
-part-same-start : tie.Need-part-same-start Inv-loop μ-loop
-part-same-start c = omega arith
-
 part-same-end : tie.Need-part-same-end Inv-loop μ-loop
 part-same-end c = part-end-le 9 _ _ _ (c .part-end .ensures) (c .before .loop-test .taken)
 
-same-requires : tie.Need-same-requires Inv-loop μ-loop
-same-requires c κs = search needs
-
 returns : tie.Need-returns Inv-loop μ-loop
 returns c =
-    let e = c .before .before .before in
-    let here = first-here _ _ _ (e .part-end .ensures) (e .before .loop-test .taken) (same (now (e .before .before .before .before .before .args .word))) (sym (c .before .same .ensures) ∙ c .if1 .taken) in
-    sym (e .before .before .loop .inv .1 ∙ rw here (omega arith))
-
-add-n : tie.Need-add-n Inv-loop μ-loop
-add-n c = omega arith
+    let compared = c .before in
+    let ended = compared .before .before in
+    let turn = ended .before in
+    let start = turn .before .before in
+    let found = sym (compared .same .ensures) ∙ c .if1 .taken in
+    let here =
+    first-here _ _ _ (ended .part-end .ensures) (turn .loop-test .taken) (same (now (start .before .before .args .word))) found in
+    sym (turn .before .loop .inv .1 ∙ rw here (omega arith))
 
 add-p : tie.Need-add-p Inv-loop μ-loop
 add-p c =
-    let e = c .before .before .before in
-    omega (arith, part-end-le 9 _ _ _ (e .part-end .ensures) (e .before .loop-test .taken))
-
-loop-less : tie.Need-loop-less Inv-loop μ-loop
-loop-less c = omega arith
+    let compared = c .before in
+    let ended = compared .before .before in
+    omega (arith, part-end-le 9 _ _ _ (ended .part-end .ensures) (ended .before .loop-test .taken))
 
 loop-again : tie.Need-loop-again Inv-loop μ-loop
 loop-again c =
-    let e = c .before .before .before in
-    let next = first-next _ _ _ (e .part-end .ensures) (e .before .loop-test .taken) (same (now (e .before .before .before .before .before .args .word))) (sym (c .before .same .ensures) ∙ c .if1 .left) in
-    (omega arith, e .before .before .loop .inv .1 ∙ rw next (omega arith))
+    let compared = c .before in
+    let ended = compared .before .before in
+    let turn = ended .before in
+    let start = turn .before .before in
+    let other = sym (compared .same .ensures) ∙ c .if1 .left in
+    let next =
+    first-next _ _ _ (ended .part-end .ensures) (turn .loop-test .taken) (same (now (start .before .before .args .word))) other in
+    (omega arith, turn .before .loop .inv .1 ∙ rw next (omega arith))
 
 returns-2 : tie.Need-returns-2 Inv-loop μ-loop
 unfolding first
@@ -71,14 +64,14 @@ index-of-spec =
     Inv-loop
     μ-loop
     loop-holds
-    part-end-requires
-    sub-same
-    part-same-start
+    (λ c κs. search needs)
+    (λ c. omega arith)
+    (λ c. omega arith)
     part-same-end
-    same-requires
+    (λ c κs. search needs)
     returns
-    add-n
+    (λ c. omega arith)
     add-p
-    loop-less
+    (λ c. omega arith)
     loop-again
     returns-2)

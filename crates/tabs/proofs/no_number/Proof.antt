@@ -5,14 +5,8 @@ use Rattle.text.specs.Number.{isBad}
 use Rattle.tabs.proofs.no_number.Statement.{statement}
 use Rattle.tabs.proofs.no_number.Tie as tie
 
-parse-requires : tie.Need-parse-requires
-parse-requires c κs = search needs
-
-is-bad-requires : tie.Need-is-bad-requires
-is-bad-requires c κs = search needs
-
 returns : tie.Need-returns
 returns c = c .is-bad .ensures ∙ ap isBad (c .before .parse .ensures)
 
 pub no-number-spec : {M : Type 1} → statement M
-no-number-spec = tie.close (tie.spec parse-requires is-bad-requires returns)
+no-number-spec = tie.close (tie.spec (λ c κs. search needs) (λ c κs. search needs) returns)

@@ -7,9 +7,6 @@ use Rattle.tabs.specs.Fields.{behind}
 use Rattle.tabs.proofs.third_at.Statement.{statement}
 use Rattle.tabs.proofs.third_at.Tie as tie
 
-behind-requires : tie.Need-behind-requires
-behind-requires c κs = search needs
-
 behind-requires-2 : tie.Need-behind-requires-2
 unfolding behind
 behind-requires-2 c κs = omega (arith, upTo-le 9 (now (c .before .before .args .line)))
@@ -18,4 +15,4 @@ returns : tie.Need-returns
 returns c = rw (c .behind2 .ensures, c .before .behind .ensures)
 
 pub third-at-spec : {M : Type 1} → statement M
-third-at-spec = tie.close (tie.spec behind-requires behind-requires-2 returns)
+third-at-spec = tie.close (tie.spec (λ c κs. search needs) behind-requires-2 returns)

@@ -7,14 +7,15 @@ use lib.Dec.{eqb}
 use lib.ListN.{length}
 use Rattle.lists.specs.Search.{any}
 use Rattle.text.proofs.TextLaws.{part-end-le}
-use Rattle.tabs.specs.Fields.{fieldValue}
-use Rattle.tabs.specs.Fields.{fieldsFrom}
+use Rattle.tabs.specs.Fields.{fieldsFrom, fieldValue}
 use Rattle.tabs.proofs.FieldsLaws.{any-here, any-next, fieldsFrom-past}
 use Rattle.values.proofs.any_among.Statement.{statement}
 use Rattle.values.proofs.any_among.Tie as tie
 
 abbrev Inv-loop : tie.InvT-loop
-Inv-loop line from held p₀ p = any (λ f. any (eqb (fieldValue f)) held) (fieldsFrom line from) ≡ any (λ f. any (eqb (fieldValue f)) held) (fieldsFrom line p)
+Inv-loop line from held p₀ p =
+    any (λ f. any (eqb (fieldValue f)) held) (fieldsFrom line from)
+    ≡ any (λ f. any (eqb (fieldValue f)) held) (fieldsFrom line p)
 
 abbrev μ-loop : tie.MeasureT-loop
 μ-loop line from held p₀ p = length line + 1 - p
@@ -22,46 +23,33 @@ abbrev μ-loop : tie.MeasureT-loop
 loop-holds : tie.Need-loop-holds Inv-loop μ-loop
 loop-holds c = refl
 
-part-end-requires : tie.Need-part-end-requires Inv-loop μ-loop
-part-end-requires c κs = search needs
-
-sub-field-value : tie.Need-sub-field-value Inv-loop μ-loop
-sub-field-value c = omega arith
-
-part-field-value-start : tie.Need-part-field-value-start Inv-loop μ-loop
-part-field-value-start c = omega arith
-
 part-field-value-end : tie.Need-part-field-value-end Inv-loop μ-loop
 part-field-value-end c = part-end-le 9 _ _ _ (c .part-end .ensures) (c .before .loop-test .taken)
 
-field-value-requires : tie.Need-field-value-requires Inv-loop μ-loop
-field-value-requires c κs = search needs
-
-is-among-requires : tie.Need-is-among-requires Inv-loop μ-loop
-is-among-requires c κs = search needs
-
 returns : tie.Need-returns Inv-loop μ-loop
 returns c =
-    let v = c .before .before in
-    let e = v .before .before in
+    let valued = c .before .before in
+    let ended = valued .before .before in
+    let found = sym (c .before .is-among .ensures) ∙ c .if1 .taken in
     sym
-    (e .before .before .loop .inv
-    ∙ any-here _ _ _ (e .part-end .ensures) (e .before .loop-test .taken) _ (rw (← v .field-value .ensures) (sym (c .before .is-among .ensures) ∙ c .if1 .taken)))
+    (ended .before .before .loop .inv
+    ∙ any-here _ _ _ (ended .part-end .ensures) (ended .before .loop-test .taken) _
+    (rw (← valued .field-value .ensures) found))
 
 add-p : tie.Need-add-p Inv-loop μ-loop
 add-p c =
-    let e = c .before .before .before .before in
-    omega (arith, part-end-le 9 _ _ _ (e .part-end .ensures) (e .before .loop-test .taken))
-
-loop-less : tie.Need-loop-less Inv-loop μ-loop
-loop-less c = omega arith
+    let valued = c .before .before in
+    let ended = valued .before .before in
+    omega (arith, part-end-le 9 _ _ _ (ended .part-end .ensures) (ended .before .loop-test .taken))
 
 loop-again : tie.Need-loop-again Inv-loop μ-loop
 loop-again c =
-    let v = c .before .before in
-    let e = v .before .before in
-    e .before .before .loop .inv
-    ∙ any-next _ _ _ (e .part-end .ensures) (e .before .loop-test .taken) _ (rw (← v .field-value .ensures) (sym (c .before .is-among .ensures) ∙ c .if1 .left))
+    let valued = c .before .before in
+    let ended = valued .before .before in
+    let other = sym (c .before .is-among .ensures) ∙ c .if1 .left in
+    ended .before .before .loop .inv
+    ∙ any-next _ _ _ (ended .part-end .ensures) (ended .before .loop-test .taken) _
+    (rw (← valued .field-value .ensures) other)
 
 returns-2 : tie.Need-returns-2 Inv-loop μ-loop
 unfolding any
@@ -74,14 +62,14 @@ any-among-spec =
     Inv-loop
     μ-loop
     loop-holds
-    part-end-requires
-    sub-field-value
-    part-field-value-start
+    (λ c κs. search needs)
+    (λ c. omega arith)
+    (λ c. omega arith)
     part-field-value-end
-    field-value-requires
-    is-among-requires
+    (λ c κs. search needs)
+    (λ c κs. search needs)
     returns
     add-p
-    loop-less
+    (λ c. omega arith)
     loop-again
     returns-2)

@@ -21,40 +21,31 @@ abbrev μ-loop : tie.MeasureT-loop
 loop-holds : tie.Need-loop-holds Inv-loop μ-loop
 loop-holds c = refl
 
-part-end-requires : tie.Need-part-end-requires Inv-loop μ-loop
-part-end-requires c κs = search needs
-
-sub-passes : tie.Need-sub-passes Inv-loop μ-loop
-sub-passes c = omega arith
-
-part-passes-start : tie.Need-part-passes-start Inv-loop μ-loop
-part-passes-start c = omega arith
-
 part-passes-end : tie.Need-part-passes-end Inv-loop μ-loop
 part-passes-end c = part-end-le 9 _ _ _ (c .part-end .ensures) (c .before .loop-test .taken)
 
-passes-requires : tie.Need-passes-requires Inv-loop μ-loop
-passes-requires c κs = search needs
-
 returns : tie.Need-returns Inv-loop μ-loop
 returns c =
-    let e = c .before .before .before in
-    let l = e .before .before in
-    sym (l .loop .inv ∙ any-here _ _ _ (e .part-end .ensures) (e .before .loop-test .taken) _ (sym (c .before .passes .ensures) ∙ c .if1 .taken))
+    let tested = c .before in
+    let ended = tested .before .before in
+    let found = sym (tested .passes .ensures) ∙ c .if1 .taken in
+    sym
+    (ended .before .before .loop .inv
+    ∙ any-here _ _ _ (ended .part-end .ensures) (ended .before .loop-test .taken) _ found)
 
 add-p : tie.Need-add-p Inv-loop μ-loop
 add-p c =
-    let e = c .before .before .before in
-    omega (arith, part-end-le 9 _ _ _ (e .part-end .ensures) (e .before .loop-test .taken))
-
-loop-less : tie.Need-loop-less Inv-loop μ-loop
-loop-less c = omega arith
+    let tested = c .before in
+    let ended = tested .before .before in
+    omega (arith, part-end-le 9 _ _ _ (ended .part-end .ensures) (ended .before .loop-test .taken))
 
 loop-again : tie.Need-loop-again Inv-loop μ-loop
 loop-again c =
-    let e = c .before .before .before in
-    let l = e .before .before in
-    l .loop .inv ∙ any-next _ _ _ (e .part-end .ensures) (e .before .loop-test .taken) _ (sym (c .before .passes .ensures) ∙ c .if1 .left)
+    let tested = c .before in
+    let ended = tested .before .before in
+    let other = sym (tested .passes .ensures) ∙ c .if1 .left in
+    ended .before .before .loop .inv
+    ∙ any-next _ _ _ (ended .part-end .ensures) (ended .before .loop-test .taken) _ other
 
 returns-2 : tie.Need-returns-2 Inv-loop μ-loop
 unfolding any
@@ -67,13 +58,13 @@ any-field-spec =
     Inv-loop
     μ-loop
     loop-holds
-    part-end-requires
-    sub-passes
-    part-passes-start
+    (λ c κs. search needs)
+    (λ c. omega arith)
+    (λ c. omega arith)
     part-passes-end
-    passes-requires
+    (λ c κs. search needs)
     returns
     add-p
-    loop-less
+    (λ c. omega arith)
     loop-again
     returns-2)

@@ -19,42 +19,19 @@ abbrev μ-loop : tie.MeasureT-loop
 loop-holds : tie.Need-loop-holds Inv-loop μ-loop
 loop-holds c = refl
 
-mul-v : tie.Need-mul-v Inv-loop μ-loop
-mul-v c = search needs
-
-shared-slice-read-v : tie.Need-shared-slice-read-v Inv-loop μ-loop
-shared-slice-read-v c = search needs
-
-add-k : tie.Need-add-k Inv-loop μ-loop
-add-k c = search needs
-
-mul-is-among : tie.Need-mul-is-among Inv-loop μ-loop
-mul-is-among c = omega arith
-
-sub-is-among : tie.Need-sub-is-among Inv-loop μ-loop
-sub-is-among c = omega arith
-
-part-is-among-start : tie.Need-part-is-among-start Inv-loop μ-loop
-part-is-among-start c = omega arith
-
-part-is-among-end : tie.Need-part-is-among-end Inv-loop μ-loop
-part-is-among-end c = omega arith
-
-is-among-requires : tie.Need-is-among-requires Inv-loop μ-loop
-is-among-requires c κs = search needs
-
 returns : tie.Need-returns Inv-loop μ-loop
 returns c =
-    let l = c .before .before .before .before .before .loop in
-    sym (l .inv ∙ anyPair-here _ (l .k) (omega arith) (sym (c .before .is-among .ensures) ∙ c .if1 .taken))
-
-loop-less : tie.Need-loop-less Inv-loop μ-loop
-loop-less c = omega arith
+    let compared = c .before in
+    let read = compared .before .before in
+    let l = read .before .before .loop in
+    sym (l .inv ∙ anyPair-here _ (l .k) (omega arith) (sym (compared .is-among .ensures) ∙ c .if1 .taken))
 
 loop-again : tie.Need-loop-again Inv-loop μ-loop
 loop-again c =
-    let l = c .before .before .before .before .before .loop in
-    l .inv ∙ anyPair-next _ (l .k) (omega arith) (sym (c .before .is-among .ensures) ∙ c .if1 .left)
+    let compared = c .before in
+    let read = compared .before .before in
+    let l = read .before .before .loop in
+    l .inv ∙ anyPair-next _ (l .k) (omega arith) (sym (compared .is-among .ensures) ∙ c .if1 .left)
 
 returns-2 : tie.Need-returns-2 Inv-loop μ-loop
 returns-2 c = let l = c .before .loop in sym (l .inv ∙ anyPair-end _ (l .k) (omega arith))
@@ -66,15 +43,15 @@ any-same-spec =
     Inv-loop
     μ-loop
     loop-holds
-    mul-v
-    shared-slice-read-v
-    add-k
-    mul-is-among
-    sub-is-among
-    part-is-among-start
-    part-is-among-end
-    is-among-requires
+    (λ c. search needs)
+    (λ c. search needs)
+    (λ c. search needs)
+    (λ c. omega arith)
+    (λ c. omega arith)
+    (λ c. omega arith)
+    (λ c. omega arith)
+    (λ c κs. search needs)
     returns
-    loop-less
+    (λ c. omega arith)
     loop-again
     returns-2)

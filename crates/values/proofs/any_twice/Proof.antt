@@ -22,48 +22,61 @@ abbrev μ-loop : tie.MeasureT-loop
 loop-holds : tie.Need-loop-holds Inv-loop μ-loop
 loop-holds c = refl
 
-block-at-requires : tie.Need-block-at-requires Inv-loop μ-loop
-block-at-requires c κs = search needs
-
 array-share-prefix-values : tie.Need-array-share-prefix-values Inv-loop μ-loop
 array-share-prefix-values c = held-of (c .before .block-at .ensures) .room
 
 slice-aggregate-any-same : tie.Need-slice-aggregate-any-same Inv-loop μ-loop
 slice-aggregate-any-same c = sym (length-take-le _ _ (held-of (c .before .before .block-at .ensures) .room))
 
-any-same-requires : tie.Need-any-same-requires Inv-loop μ-loop
-any-same-requires c κs = search needs
-
 returns : tie.Need-returns Inv-loop μ-loop
 returns c =
-    let b = c .before .before .before .before in
-    sym (b .before .before .loop .inv ∙ block-same (held-of (b .block-at .ensures)) (sym (c .before .any-same .ensures) ∙ c .if1 .taken))
+    let compared = c .before in
+    let shared = compared .before in
+    let block = shared .before .before in
+    let twice = sym (compared .any-same .ensures) ∙ c .if1 .taken in
+    sym (block .before .before .loop .inv ∙ block-same (held-of (block .block-at .ensures)) twice)
 
 array-share-prefix-values-2 : tie.Need-array-share-prefix-values-2 Inv-loop μ-loop
-array-share-prefix-values-2 c = held-of (c .before .before .before .before .block-at .ensures) .room
+array-share-prefix-values-2 c =
+    let shared = c .before .before in
+    held-of (shared .before .before .block-at .ensures) .room
 
 slice-aggregate-any-among : tie.Need-slice-aggregate-any-among Inv-loop μ-loop
-slice-aggregate-any-among c = sym (length-take-le _ _ (held-of (c .before .before .before .before .before .block-at .ensures) .room))
-
-any-among-requires : tie.Need-any-among-requires Inv-loop μ-loop
-any-among-requires c κs = search needs
+slice-aggregate-any-among c =
+    let tested = c .before in
+    let shared = tested .before .before in
+    sym (length-take-le _ _ (held-of (shared .before .before .block-at .ensures) .room))
 
 returns-2 : tie.Need-returns-2 Inv-loop μ-loop
 returns-2 c =
-    let s = c .before .before .before in
-    let b = s .before .before .before .before in
-    sym (b .before .before .loop .inv ∙ block-among (held-of (b .block-at .ensures)) (sym (s .before .any-same .ensures) ∙ s .if1 .left) (sym (c .before .any-among .ensures) ∙ c .if2 .taken))
+    let sought = c .before in
+    let tested = sought .before .before in
+    let compared = tested .before in
+    let shared = compared .before in
+    let block = shared .before .before in
+    let once = sym (compared .any-same .ensures) ∙ tested .if1 .left in
+    let behind = sym (sought .any-among .ensures) ∙ c .if2 .taken in
+    sym (block .before .before .loop .inv ∙ block-among (held-of (block .block-at .ensures)) once behind)
 
 loop-less : tie.Need-loop-less Inv-loop μ-loop
 loop-less c =
-    let b = c .before .before .before .before .before .before .before in
-    omega (arith, held-of (b .block-at .ensures) .onwards (b .before .loop-test .taken), b .before .loop-test .taken)
+    let sought = c .before in
+    let tested = sought .before .before in
+    let shared = tested .before .before in
+    let block = shared .before .before in
+    let inside = block .before .loop-test .taken in
+    omega (arith, held-of (block .block-at .ensures) .onwards inside, inside)
 
 loop-again : tie.Need-loop-again Inv-loop μ-loop
 loop-again c =
-    let s = c .before .before .before in
-    let b = s .before .before .before .before in
-    b .before .before .loop .inv ∙ block-next (held-of (b .block-at .ensures)) (sym (s .before .any-same .ensures) ∙ s .if1 .left) (sym (c .before .any-among .ensures) ∙ c .if2 .left)
+    let sought = c .before in
+    let tested = sought .before .before in
+    let compared = tested .before in
+    let shared = compared .before in
+    let block = shared .before .before in
+    let once = sym (compared .any-same .ensures) ∙ tested .if1 .left in
+    let nowhere = sym (sought .any-among .ensures) ∙ c .if2 .left in
+    block .before .before .loop .inv ∙ block-next (held-of (block .block-at .ensures)) once nowhere
 
 returns-3 : tie.Need-returns-3 Inv-loop μ-loop
 unfolding anyPair
@@ -76,14 +89,14 @@ any-twice-spec =
     Inv-loop
     μ-loop
     loop-holds
-    block-at-requires
+    (λ c κs. search needs)
     array-share-prefix-values
     slice-aggregate-any-same
-    any-same-requires
+    (λ c κs. search needs)
     returns
     array-share-prefix-values-2
     slice-aggregate-any-among
-    any-among-requires
+    (λ c κs. search needs)
     returns-2
     loop-less
     loop-again

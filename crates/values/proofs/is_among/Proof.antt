@@ -20,18 +20,6 @@ abbrev μ-loop : tie.MeasureT-loop
 loop-holds : tie.Need-loop-holds Inv-loop μ-loop
 loop-holds c = refl
 
-mul-found : tie.Need-mul-found Inv-loop μ-loop
-mul-found c = search needs
-
-shared-slice-read-found : tie.Need-shared-slice-read-found Inv-loop μ-loop
-shared-slice-read-found c = search needs
-
-add-k : tie.Need-add-k Inv-loop μ-loop
-add-k c = search needs
-
-loop-less : tie.Need-loop-less Inv-loop μ-loop
-loop-less c = search needs
-
 loop-again : tie.Need-loop-again Inv-loop μ-loop
 loop-again c =
     let l = c .before .before .loop in
@@ -43,4 +31,4 @@ returns c = let l = c .before .loop in sym (l .inv ∙ any-held-end _ (l .k) _ (
 pub is-among-spec : {M : Type 1} → statement M
 is-among-spec =
     tie.close
-    (tie.spec Inv-loop μ-loop loop-holds mul-found shared-slice-read-found add-k loop-less loop-again returns)
+    (tie.spec Inv-loop μ-loop loop-holds (λ c. search needs) (λ c. search needs) (λ c. search needs) (λ c. search needs) loop-again returns)
