@@ -226,31 +226,33 @@ held-of {line} {from} {most} {b} at =
 
 -- Values that stand twice: in a block, in it and behind it, or behind it
 
+-- the values that a block holds
+abbrev pub heldIn : Block → List ℕ
+heldIn b = take (b .count) (b .values)
+
+-- is one of them a value of a field behind the block?
+abbrev pub sameBehind : List ℕ → Block → Bool
+sameBehind line b = any (λ f. any (eqb (fieldValue f)) (heldIn b)) (fieldsFrom line (b .behind))
+
 module _ {line : List ℕ} {from most : ℕ} {b : Block} (at : Held line from most b) where
   anyPair-block : anyPair eqb (valuesFrom line from)
-      ≡ (anyPair eqb (take (b .count) (b .values))
-      || (any (λ f. any (eqb (fieldValue f)) (take (b .count) (b .values))) (fieldsFrom line (b .behind))
-      || anyPair eqb (valuesFrom line (b .behind))))
+      ≡ (anyPair eqb (heldIn b) || (sameBehind line b || anyPair eqb (valuesFrom line (b .behind))))
   anyPair-block =
-      let held = take (b .count) (b .values) in
-      let split : valuesFrom line from ≡ held ++ valuesFrom line (b .behind) =
+      let split : valuesFrom line from ≡ heldIn b ++ valuesFrom line (b .behind) =
       rw (at .held, at .left) (sym (take-append-drop blockSize (valuesFrom line from))) in
       rw (
         split,
-        anyPair-append eqb eqb-comm held (valuesFrom line (b .behind)),
-        any-map (λ y. any (eqb y) held) fieldValue (fieldsFrom line (b .behind)),
+        anyPair-append eqb eqb-comm (heldIn b) (valuesFrom line (b .behind)),
+        any-map (λ y. any (eqb y) (heldIn b)) fieldValue (fieldsFrom line (b .behind)),
       )
 
-  pub block-same : anyPair eqb (take (b .count) (b .values)) ≡ true → anyPair eqb (valuesFrom line from) ≡ true
+  pub block-same : anyPair eqb (heldIn b) ≡ true → anyPair eqb (valuesFrom line from) ≡ true
   block-same t = anyPair-block ∙ rw t
 
-  pub block-among : anyPair eqb (take (b .count) (b .values)) ≡ false
-      → any (λ f. any (eqb (fieldValue f)) (take (b .count) (b .values))) (fieldsFrom line (b .behind)) ≡ true
-      → anyPair eqb (valuesFrom line from) ≡ true
+  pub block-among : anyPair eqb (heldIn b) ≡ false → sameBehind line b ≡ true → anyPair eqb (valuesFrom line from) ≡ true
   block-among s t = anyPair-block ∙ rw (s, t)
 
-  pub block-next : anyPair eqb (take (b .count) (b .values)) ≡ false
-      → any (λ f. any (eqb (fieldValue f)) (take (b .count) (b .values))) (fieldsFrom line (b .behind)) ≡ false
+  pub block-next : anyPair eqb (heldIn b) ≡ false → sameBehind line b ≡ false
       → anyPair eqb (valuesFrom line from) ≡ anyPair eqb (valuesFrom line (b .behind))
   block-next s t = anyPair-block ∙ rw (s, t)
 
@@ -263,20 +265,17 @@ abbrev pub badFrom : List ℕ → ℕ → ℕ → Bool
 badFrom line from most = any (leb (most + 1)) (valuesFrom line from) || anyPair eqb (valuesFrom line from)
 
 abbrev pub badIn : Block → Bool
-badIn b = b .above || anyPair eqb (take (b .count) (b .values))
+badIn b = b .above || anyPair eqb (heldIn b)
 
 abbrev pub badBehind : List ℕ → ℕ → Block → Bool
-badBehind line most b =
-    any (passes (Above most)) (fieldsFrom line (b .behind))
-    || any (λ f. any (eqb (fieldValue f)) (take (b .count) (b .values))) (fieldsFrom line (b .behind))
+badBehind line most b = any (passes (Above most)) (fieldsFrom line (b .behind)) || sameBehind line b
 
 module _ {line : List ℕ} {from most : ℕ} {b : Block} (at : Held line from most b) where
   badFrom-block : badFrom line from most ≡ (badIn b || (badBehind line most b || anyPair eqb (valuesFrom line (b .behind))))
   badFrom-block =
-      let held = take (b .count) (b .values) in
       let rest = fieldsFrom line (b .behind) in
       rw (any-above most (most + 1) (fieldsFrom line from) refl, at .over, anyPair-block at)
-      (or-arrange (b .above) (any (passes (Above most)) rest) (anyPair eqb held) (any (λ f. any (eqb (fieldValue f)) held) rest)
+      (or-arrange (b .above) (any (passes (Above most)) rest) (anyPair eqb (heldIn b)) (sameBehind line b)
       (anyPair eqb (map fieldValue rest)))
 
   pub badFrom-in : badIn b ≡ true → badFrom line from most ≡ true

@@ -1,6 +1,8 @@
 -- `tabs::index_of` meets its contract. The invariant: the search among all the fields passed so many, and goes on among those left.
 use mathlib.Core.Path.{_≡_, sym, _∙_}
-use Prim.Native.Nat.{_+_, _-_, _≤_}
+use mathlib.Core.Bool.{Bool}
+use mathlib.Core.List.{List}
+use Prim.Native.Nat.{ℕ, _+_, _-_, _≤_}
 use native.Mathlib.Omega.{arith}
 use borrow.Author.Needs.{needs}
 use lib.ListN.{length}
@@ -25,33 +27,35 @@ loop-holds c = (omega arith, rw (fieldsFrom-zero _) (omega arith))
 part-same-end : tie.Need-part-same-end Inv-loop μ-loop
 part-same-end c = part-end-le 9 _ _ _ (c .part-end .ensures) (c .before .loop-test .taken)
 
+-- the point behind a field's end, from that behind its comparison
+abbrev field-of : tie.After-same Inv-loop μ-loop → tie.After-part-end Inv-loop μ-loop
+field-of c = c .before .before
+
+-- is a field the word that is looked for?
+abbrev wanted : tie.After-part-end Inv-loop μ-loop → List ℕ → Bool
+wanted c =
+    let turn = c .before in
+    let start = turn .before .before in
+    same (now (start .before .before .args .word))
+
 returns : tie.Need-returns Inv-loop μ-loop
 returns c =
-    let compared = c .before in
-    let ended = compared .before .before in
-    let turn = ended .before in
-    let start = turn .before .before in
-    let found = sym (compared .same .ensures) ∙ c .if1 .taken in
-    let here =
-    first-here _ _ _ (ended .part-end .ensures) (turn .loop-test .taken) (same (now (start .before .before .args .word))) found in
-    sym (turn .before .loop .inv .1 ∙ rw here (omega arith))
+    let found = sym (c .before .same .ensures) ∙ c .if1 .taken in
+    let ended = field-of (c .before) in
+    let here = first-here _ _ _ (ended .part-end .ensures) (ended .before .loop-test .taken) (wanted ended) found in
+    sym (ended .before .before .loop .inv .1 ∙ rw here (omega arith))
 
 add-p : tie.Need-add-p Inv-loop μ-loop
 add-p c =
-    let compared = c .before in
-    let ended = compared .before .before in
+    let ended = field-of (c .before) in
     omega (arith, part-end-le 9 _ _ _ (ended .part-end .ensures) (ended .before .loop-test .taken))
 
 loop-again : tie.Need-loop-again Inv-loop μ-loop
 loop-again c =
-    let compared = c .before in
-    let ended = compared .before .before in
-    let turn = ended .before in
-    let start = turn .before .before in
-    let other = sym (compared .same .ensures) ∙ c .if1 .left in
-    let next =
-    first-next _ _ _ (ended .part-end .ensures) (turn .loop-test .taken) (same (now (start .before .before .args .word))) other in
-    (omega arith, turn .before .loop .inv .1 ∙ rw next (omega arith))
+    let other = sym (c .before .same .ensures) ∙ c .if1 .left in
+    let ended = field-of (c .before) in
+    let next = first-next _ _ _ (ended .part-end .ensures) (ended .before .loop-test .taken) (wanted ended) other in
+    (omega arith, ended .before .before .loop .inv .1 ∙ rw next (omega arith))
 
 returns-2 : tie.Need-returns-2 Inv-loop μ-loop
 unfolding first

@@ -1,5 +1,6 @@
 -- `values::any_twice` meets its contract. The invariant: the search among all the values comes out as that among the values left.
 use mathlib.Core.Path.{_≡_, refl, sym, _∙_}
+use mathlib.Core.Bool.{false}
 use Prim.Native.Nat.{_+_, _-_}
 use native.Mathlib.Omega.{arith}
 use borrow.Author.Needs.{needs}
@@ -9,7 +10,7 @@ use lib.Seq.{length-take-le}
 use Rattle.lists.specs.Search.{anyPair}
 use Rattle.values.specs.Block.{valuesFrom}
 use Rattle.tabs.proofs.FieldsLaws.{fieldsFrom-past}
-use Rattle.values.proofs.BlockLaws.{held-of, block-same, block-among, block-next}
+use Rattle.values.proofs.BlockLaws.{heldIn, held-of, block-same, block-among, block-next}
 use Rattle.values.proofs.any_twice.Statement.{statement}
 use Rattle.values.proofs.any_twice.Tie as tie
 
@@ -47,36 +48,36 @@ slice-aggregate-any-among c =
     let shared = tested .before .before in
     sym (length-take-le _ _ (held-of (shared .before .before .block-at .ensures) .room))
 
+-- the point behind the block, from that behind the search in what follows it
+abbrev block-of : tie.After-any-among Inv-loop μ-loop → tie.After-block-at Inv-loop μ-loop
+block-of c =
+    let tested = c .before .before in
+    let shared = tested .before .before in
+    shared .before .before
+
+-- no value stands twice in the block
+once : (c : tie.After-any-among Inv-loop μ-loop) → anyPair eqb (heldIn (block-of c .block-at .result)) ≡ false
+once c =
+    let tested = c .before .before in
+    sym (tested .before .any-same .ensures) ∙ tested .if1 .left
+
 returns-2 : tie.Need-returns-2 Inv-loop μ-loop
 returns-2 c =
-    let sought = c .before in
-    let tested = sought .before .before in
-    let compared = tested .before in
-    let shared = compared .before in
-    let block = shared .before .before in
-    let once = sym (compared .any-same .ensures) ∙ tested .if1 .left in
-    let behind = sym (sought .any-among .ensures) ∙ c .if2 .taken in
-    sym (block .before .before .loop .inv ∙ block-among (held-of (block .block-at .ensures)) once behind)
+    let block = block-of (c .before) in
+    let behind = sym (c .before .any-among .ensures) ∙ c .if2 .taken in
+    sym (block .before .before .loop .inv ∙ block-among (held-of (block .block-at .ensures)) (once (c .before)) behind)
 
 loop-less : tie.Need-loop-less Inv-loop μ-loop
 loop-less c =
-    let sought = c .before in
-    let tested = sought .before .before in
-    let shared = tested .before .before in
-    let block = shared .before .before in
+    let block = block-of (c .before) in
     let inside = block .before .loop-test .taken in
     omega (arith, held-of (block .block-at .ensures) .onwards inside, inside)
 
 loop-again : tie.Need-loop-again Inv-loop μ-loop
 loop-again c =
-    let sought = c .before in
-    let tested = sought .before .before in
-    let compared = tested .before in
-    let shared = compared .before in
-    let block = shared .before .before in
-    let once = sym (compared .any-same .ensures) ∙ tested .if1 .left in
-    let nowhere = sym (sought .any-among .ensures) ∙ c .if2 .left in
-    block .before .before .loop .inv ∙ block-next (held-of (block .block-at .ensures)) once nowhere
+    let block = block-of (c .before) in
+    let nowhere = sym (c .before .any-among .ensures) ∙ c .if2 .left in
+    block .before .before .loop .inv ∙ block-next (held-of (block .block-at .ensures)) (once (c .before)) nowhere
 
 returns-3 : tie.Need-returns-3 Inv-loop μ-loop
 unfolding anyPair

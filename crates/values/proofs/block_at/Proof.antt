@@ -1,5 +1,4 @@
 -- `values::block_at` meets its contract. The invariant: the values read and those left are all the values.
-use mathlib.Core.Path.{refl}
 use Prim.Native.Nat.{_+_, _-_, _<_, _≤_}
 use native.Mathlib.Omega.{arith}
 use borrow.Author.Needs.{needs}
