@@ -1,4 +1,5 @@
--- The bits that a step over a memory may write and those that it reads; steps whose bits do not meet commute. No contract cites this file. Assumes nothing.
+-- The bits that a step over a memory may write and those that it reads; steps whose bits do not meet commute. No contract cites
+-- this file. Assumes nothing.
 use mathlib.Core.Path.{_≡_, sym, _∙_}
 use mathlib.Core.Logic.{_⊎_, ⊎-elim}
 use mathlib.Core.List.{List}
@@ -22,7 +23,8 @@ pub apart-sym : {W R W′ R′ : ℕ → Type 0} → Apart W R W′ R′ → Apa
 apart-sym h = record { writes = λ a w′ w. h .writes a w w′; left = h .right; right = h .left }
 
 -- a bit that is not in W stays
-pub kept : {n : ℕ} {W R : ℕ → Type 0} {f : List ℕ → List ℕ} → Foot n W R f → (m : List ℕ) → Memory n m → (a : ℕ) → (W a → ⊥) → bitAt (f m) a ≡ bitAt m a
+pub kept : {n : ℕ} {W R : ℕ → Type 0} {f : List ℕ → List ℕ} → Foot n W R f → (m : List ℕ) → Memory n m → (a : ℕ)
+    → (W a → ⊥) → bitAt (f m) a ≡ bitAt m a
 kept F m g a no-w = ⊎-elim (λ e. e) (λ w. absurd (no-w w)) (F .frame m g a)
 
 -- in the bits that f may write, it is all the same whether f′ went before or comes after

@@ -40,7 +40,8 @@ module _ {S : Type 0} {Good : S → Type 0} {count : ℕ → ℕ} {step : ℕ �
   visits-good j k c h = visits-keep (step j) Good k c (λ i hi. C .good j i (omega arith))
 
   -- one step of j goes past steps of another job
-  step-upto : (j x i k : ℕ) → j ≢ x → i < count j → k ≤ count x → (m : S) → Good m → step j i (upto (step x) k m) ≡ upto (step x) k (step j i m)
+  step-upto : (j x i k : ℕ) → j ≢ x → i < count j → k ≤ count x → (m : S) → Good m
+      → step j i (upto (step x) k m) ≡ upto (step x) k (step j i m)
   unfolding upto
   step-upto j x i zero ne hi hk m g = refl
   step-upto j x i (suc k) ne hi hk m g =
@@ -48,7 +49,8 @@ module _ {S : Type 0} {Good : S → Type 0} {count : ℕ → ℕ} {step : ℕ �
       ∙ ap (step x k) (step-upto j x i k ne hi (omega arith) m g)
 
   -- and so do the first ones
-  upto-upto : (j x i k : ℕ) → j ≢ x → i ≤ count j → k ≤ count x → (m : S) → Good m → upto (step j) i (upto (step x) k m) ≡ upto (step x) k (upto (step j) i m)
+  upto-upto : (j x i k : ℕ) → j ≢ x → i ≤ count j → k ≤ count x → (m : S) → Good m
+      → upto (step j) i (upto (step x) k m) ≡ upto (step x) k (upto (step j) i m)
   unfolding upto
   upto-upto j x zero k ne hi hk m g = refl
   upto-upto j x (suc i) k ne hi hk m g =
@@ -56,7 +58,8 @@ module _ {S : Type 0} {Good : S → Type 0} {count : ℕ → ℕ} {step : ℕ �
       ∙ step-upto j x i k ne hi hk (upto (step j) i m) (upto-good j i (omega arith) m g)
 
   module _ (p : ℕ → ℕ) (fits : (j : ℕ) → p j ≤ count j) where
-    step-ordered : (j i : ℕ) → i < count j → (js : List ℕ) → (In j js → ⊥) → (m : S) → Good m → step j i (ordered step p js m) ≡ ordered step p js (step j i m)
+    step-ordered : (j i : ℕ) → i < count j → (js : List ℕ) → (In j js → ⊥) → (m : S) → Good m
+        → step j i (ordered step p js m) ≡ ordered step p js (step j i m)
     unfolding ordered
     step-ordered j i hi [] h m g = refl
     step-ordered j i hi (x ∷ xs) h m g =
@@ -77,7 +80,8 @@ module _ {S : Type 0} {Good : S → Type 0} {count : ℕ → ℕ} {step : ℕ �
         → visits (step j) (p j) c (ordered step p js m) ≡ ordered step p′ js m
     unfolding ordered
     advance p′ j c e o hc (x ∷ xs) d (inl q) m g =
-        subst (λ y. (In y xs → ⊥) → visits (step j) (p j) c (ordered step p xs (upto (step y) (p y) m)) ≡ ordered step p′ xs (upto (step y) (p′ y) m)) q
+        subst (λ y. (In y xs → ⊥)
+        → visits (step j) (p j) c (ordered step p xs (upto (step y) (p y) m)) ≡ ordered step p′ xs (upto (step y) (p′ y) m)) q
         (λ ni.
         visits-ordered j (p j) c hc xs ni (upto (step j) (p j) m) (upto-good j (p j) (fits j) m g)
         ∙ ap (ordered step p xs) (visits-upto (step j) (p j) c m ∙ ap (λ k. upto (step j) k m) (sym e))
@@ -88,11 +92,13 @@ module _ {S : Type 0} {Good : S → Type 0} {count : ℕ → ℕ} {step : ℕ �
         ∙ ap (λ k. ordered step p′ xs (upto (step x) k m)) (sym (o x (λ q. in-ne j x xs i (d .0) (sym q))))
 
     -- what no other job's step changes is what job j alone has
-    module _ {O : Type 0} (obs : S → O) (j : ℕ) (keeps : (x i : ℕ) → x ≢ j → i < count x → (m : S) → Good m → obs (step x i m) ≡ obs m) where
+    module _ {O : Type 0} (obs : S → O) (j : ℕ)
+        (keeps : (x i : ℕ) → x ≢ j → i < count x → (m : S) → Good m → obs (step x i m) ≡ obs m) where
       obs-upto : (x k : ℕ) → x ≢ j → k ≤ count x → (m : S) → Good m → obs (upto (step x) k m) ≡ obs m
       unfolding upto
       obs-upto x zero ne hk m g = refl
-      obs-upto x (suc k) ne hk m g = keeps x k ne hk (upto (step x) k m) (upto-good x k (omega arith) m g) ∙ obs-upto x k ne (omega arith) m g
+      obs-upto x (suc k) ne hk m g =
+          keeps x k ne hk (upto (step x) k m) (upto-good x k (omega arith) m g) ∙ obs-upto x k ne (omega arith) m g
 
       pub obs-ordered : (js : List ℕ) → (In j js → ⊥) → (m : S) → Good m → obs (ordered step p js m) ≡ obs m
       unfolding ordered
