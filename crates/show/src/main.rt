@@ -1,4 +1,5 @@
-// Shows what there is: a field read and written, what it costs, an image, eight fetches of the instruction cache.
+// Shows what there is: a field read and written, what it costs, an image, eight
+// fetches of the instruction cache.
 use cache::Cache;
 use cache::Kind;
 use libc::STDOUT_FILENO;

@@ -1,5 +1,6 @@
-// Compares the library with test vectors from standard input. A line is 20 numbers of 8 upper-case hex digits, parted by one space
-// and ended by byte 10: 180 bytes. The first number is the kind. The numbers of each kind are listed at the function that compares it.
+// Compares the library with test vectors from standard input. A line is 20 numbers of 8 upper-case
+// hex digits, parted by one space and ended by byte 10: 180 bytes. The first number is the kind.
+// The numbers of each kind are listed at the function that compares it.
 use cache::Cache;
 use cache::Kind;
 use libc::STDIN_FILENO;
@@ -17,7 +18,8 @@ fn main() {
     report(&vectors, &differ);
 }
 
-// Compares line by line. A proved loop has to end, and nothing says that the input does, so the loop has a last turn that no run reaches.
+// Compares line by line. A proved loop has to end, and nothing says that the input does, so the
+// loop has a last turn that no run reaches.
 fn compare_all(vectors: &mut [u64], differ: &mut [u64]) {
     let mut line: u64 = 1;
     while line < u64::MAX && compare_line(line, vectors, differ) {
@@ -180,7 +182,8 @@ fn are_words(m: [u16; 4], a: u32, b: u32, c: u32, d: u32) -> bool {
     (m[0] as u32 == a) & (m[1] as u32 == b) & (m[2] as u32 == c) & (m[3] as u32 == d)
 }
 
-// A cache state: segment i's eight flags are bits 8i to 8i+7 of flags; the order is four bytes, the least recent lowest.
+// A cache state: segment i's eight flags are bits 8i to 8i+7 of flags; the order is four
+// bytes, the least recent lowest.
 fn cache_of(a: u32, b: u32, c: u32, d: u32, flags: u32, order: u32) -> Cache {
     let segments = [
         segment(a, flags % 256),
