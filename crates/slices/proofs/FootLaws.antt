@@ -1,4 +1,5 @@
--- The pixels of an accepted drawing lie in the memory, each within one word, and keep to their bits. No contract cites this file. Assumes nothing.
+-- The pixels of an accepted drawing lie in the memory, each within one word, and keep to their bits. No contract cites
+-- this file. Assumes nothing.
 use mathlib.Core.Path.{_≡_, sym, ap, subst}
 use mathlib.Core.Bool.{Bool, true, false, not, _&&_, _||_, false≢true}
 use Prim.Native.Nat.{ℕ, _+_, _*_, _%_, _^_, _≤_, _<_}

@@ -1,4 +1,5 @@
--- A call, then one with the new place, is one call with both budgets; and so are any number of them. No contract cites this file. Assumes nothing.
+-- A call, then one with the new place, is one call with both budgets; and so are any number of them. No contract cites
+-- this file. Assumes nothing.
 use mathlib.Core.Path.{_≡_, sym, ap, ap₂, _∙_}
 use mathlib.Core.Logic.{_≢_, by-cases}
 use mathlib.Core.Bool.{Bool}

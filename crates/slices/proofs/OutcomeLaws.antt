@@ -1,4 +1,5 @@
--- What a call hands back and leaves, refused or not; its refusal at other places, its new place. No contract cites this file. Assumes nothing.
+-- What a call hands back and leaves, refused or not; its refusal at other places, its new place. No contract cites
+-- this file. Assumes nothing.
 use mathlib.Core.Path.{_≡_, refl}
 use mathlib.Core.Logic.{_≢_, by-cases}
 use mathlib.Core.Bool.{Bool, true, false, cond, not, _&&_}

@@ -1,6 +1,7 @@
--- Lists of FILL and PIXBLT calls over one memory: slices of several drawings in any alternation, and other calls among them (the scope,
--- "Demand 3 is one claim about its list"). A call is the public one: `outcome` is what `drawing::draw` hands back, and `drawn` the memory
--- that it leaves. Assumes nothing.
+-- Lists of FILL and PIXBLT calls over one memory: slices of several drawings in any
+-- alternation, and other calls among them (the scope, "Demand 3 is one claim about its list").
+-- A call is the public one: `outcome` is what `drawing::draw` hands back, and `drawn` the
+-- memory that it leaves. Assumes nothing.
 use mathlib.Core.Bool.{Bool, false, cond}
 use mathlib.Core.List.{List, [], _∷_}
 use Prim.Native.Nat.{ℕ}
@@ -18,7 +19,8 @@ pub record Job : Type 0 where
 
 -- ---- one call
 
--- what is held of a drawing: all that a call hands back, but for the pixels visited by that one call
+-- what is held of a drawing: all that a call hands back, but for the
+-- pixels visited by that one call
 pub record Held : Type 0 where
   pub answer : ℕ
   pub place : ℕ
@@ -52,8 +54,9 @@ memoryAfter j place budget m = drawn (j .operation) (j .settings) place budget m
 
 -- ---- a list of calls. The drawings are numbered from 0: jobs j is drawing j
 
--- a slice of a drawing, by its number, with a budget; or any other call: drawing, place, budget, V. (Refused calls of other kinds, as PIXT
--- or a field write, leave the memory by their own promises, so they change nothing of a list that they stand in.)
+-- a slice of a drawing, by its number, with a budget; or any other call: drawing, place, budget, V.
+-- (Refused calls of other kinds, as PIXT or a field write, leave the memory by their own promises,
+-- so they change nothing of a list that they stand in.)
 pub data Call : Type 0 where
   slice : ℕ → ℕ → Call
   other : Job → ℕ → ℕ → Bool → Call
@@ -63,12 +66,13 @@ pub record State : Type 0 where
   pub memory : List ℕ
   pub held : ℕ → Held
 
--- "Its flags, V and request, and all its registers are those of its last accepted call": one that answers 10 or more is refused, and
--- changes nothing of what is held
+-- "Its flags, V and request, and all its registers are those of its last accepted call": one that
+-- answers 10 or more is refused, and changes nothing of what is held
 abbrev pub after : Held → Held → Held
 after new old = cond (ltb (new .answer) 10) new old
 
--- one call. A slice goes on at the place and with the V that are held of its drawing; any other call leaves all that is held
+-- one call. A slice goes on at the place and with the V that are held of its drawing; any other
+-- call leaves all that is held
 unfoldable pub next : (ℕ → Job) → Call → State → State
 next jobs (slice j b) s =
     let old = s .held j in

@@ -1,5 +1,5 @@
--- Calls of one drawing, one after the other, each with the place and V that the one before handed back, over the memory that it left (the
--- scope, "Arrays, windows and slices"). Assumes nothing.
+-- Calls of one drawing, one after the other, each with the place and V that the one before handed
+-- back, over the memory that it left (the scope, "Arrays, windows and slices"). Assumes nothing.
 use mathlib.Core.Bool.{Bool}
 use mathlib.Core.List.{List, [], _∷_}
 use Prim.Native.Nat.{ℕ, _+_}
@@ -29,7 +29,8 @@ abbrev pub total : List ℕ → ℕ
 total [] = 0
 total (b ∷ bs) = b + total bs
 
--- a call with the budget b and then one with each budget of bs: what they hand back together, and the memory that they leave
+-- a call with the budget b and then one with each budget of bs: what they hand back together,
+-- and the memory that they leave
 unfoldable pub handedBy : Operation → Settings → ℕ → Bool → ℕ → List ℕ → List ℕ → Outcome
 handedBy op s place v b [] m = outcome op s place v b (length m)
 handedBy op s place v b (c ∷ cs) m =
