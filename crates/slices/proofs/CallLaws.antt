@@ -61,20 +61,23 @@ module _ (j : Job) where
   visits-steps k zero m = refl
   visits-steps k (suc c) m = ap (visit (walkOf j) (k + c)) (visits-steps k c m)
 
-  pub memory-accepted : (k b : ℕ) (m : List ℕ) → number k (length m) ≡ 0 → memoryAfter j k b m ≡ visits (visit (walkOf j)) k (visitedOf k b) m
+  pub memory-accepted : (k b : ℕ) (m : List ℕ) → number k (length m) ≡ 0
+      → memoryAfter j k b m ≡ visits (visit (walkOf j)) k (visitedOf k b) m
   memory-accepted k b m e = drawn-accepted (j .operation) (j .settings) k b m e ∙ visits-steps k (visitedOf k b) m
 
   pub memory-refused : (k b : ℕ) (m : List ℕ) → number k (length m) ≢ 0 → memoryAfter j k b m ≡ m
   memory-refused k b m e = drawn-refused (j .operation) (j .settings) k b m e
 
   -- a call at place 0 draws the first pixels, as many as its budget has room for
-  pub memory-zero : (b k : ℕ) (m : List ℕ) → number 0 (length m) ≡ 0 → min b (pixelsOf j) ≡ k → memoryAfter j 0 b m ≡ upto (visit (walkOf j)) k m
+  pub memory-zero : (b k : ℕ) (m : List ℕ) → number 0 (length m) ≡ 0 → min b (pixelsOf j) ≡ k
+      → memoryAfter j 0 b m ≡ upto (visit (walkOf j)) k m
   memory-zero b k m e h =
       let q : min b (pixelsOf j - 0) ≡ k = omega arith in
       memory-accepted 0 b m e ∙ ap (λ (c : ℕ). visits (visit (walkOf j)) 0 c m) q ∙ visits-zero (visit (walkOf j)) k m
 
   -- a whole call ends at place n
-  pub handed-whole : (b : ℕ) (v : Bool) (m : List ℕ) → number 0 (length m) ≡ 0 → pixelsOf j ≤ b → handedBack j 0 b v m ≡ heldAt (pixelsOf j) v
+  pub handed-whole : (b : ℕ) (v : Bool) (m : List ℕ) → number 0 (length m) ≡ 0 → pixelsOf j ≤ b
+      → handedBack j 0 b v m ≡ heldAt (pixelsOf j) v
   handed-whole b v m e h =
       let q : 0 + min b (pixelsOf j - 0) ≡ pixelsOf j = omega arith in
       handed-accepted 0 b v m e ∙ ap (λ (k : ℕ). heldAt k v) q
@@ -82,7 +85,9 @@ module _ (j : Job) where
   -- an answer of 0 is given at place n only
   pub answer-place : (k : ℕ) (v : Bool) → heldAt k v .answer ≡ 0 → k ≡ pixelsOf j
   unfolding heldAt outcomeAt
-  answer-place k v e = by-cases (ℕ-discrete k (pixelsOf j)) (λ q. q) (λ ne. absurd (let z : _≡_ {A = ℕ} 1 0 = sym (cond-ne k (pixelsOf j) 0 1 ne) ∙ e in omega arith))
+  answer-place k v e =
+      by-cases (ℕ-discrete k (pixelsOf j)) (λ q. q)
+      (λ ne. absurd (let z : _≡_ {A = ℕ} 1 0 = sym (cond-ne k (pixelsOf j) 0 1 ne) ∙ e in omega arith))
 
   pub place-answer : (k : ℕ) (v : Bool) → k ≡ pixelsOf j → heldAt k v .answer ≡ 0
   unfolding heldAt outcomeAt

@@ -29,7 +29,8 @@ module _ {w : ℕ} (S : Drawings w) where
 
   pub cnt-none : (j : ℕ) → number (S .jobs j) 0 w ≢ 0 → cnt j ≡ 0
   unfolding cnt
-  cnt-none j hr = ap (λ (n : ℕ). cond (ltb j (S .count)) n 0) (cond-ne (number (S .jobs j) 0 w) 0 (pixelsOf (S .jobs j)) 0 hr) ∙ go (ltb j (S .count))
+  cnt-none j hr =
+      ap (λ (n : ℕ). cond (ltb j (S .count)) n 0) (cond-ne (number (S .jobs j) 0 w) 0 (pixelsOf (S .jobs j)) 0 hr) ∙ go (ltb j (S .count))
     where
       go : (t : Bool) → cond {A = ℕ} t 0 0 ≡ 0
       go true = refl

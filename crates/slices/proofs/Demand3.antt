@@ -47,9 +47,17 @@ apart-two d e h (suc j) (suc x) ne hj hx = absurd (ne (omega arith))
 pub demand3 : Demand3
 demand3 w m g d e hd he apart v u cs f a0 a1 b c hb hc =
     let S : Drawings w =
-    record { count = 2; jobs = two d e; firstV = two v u; memory = m; good = g; apart = λ j x hj hx ne p q. apart-two d e apart j x ne hj hx } in
+    record {
+      count = 2;
+      jobs = two d e;
+      firstV = two v u;
+      memory = m;
+      good = g;
+      apart = λ j x hj hx ne p q. apart-two d e apart j x ne hj hx;
+    } in
     let t =
-    any-drawings w S cs f (λ j hj _. below-two (Done (reached S cs)) a0 a1 j hj) (two b c) (below-two (λ j. Whole (two d e j) (two b c j)) hb hc) in (
+    any-drawings w S cs f (λ j hj _. below-two (Done (reached S cs)) a0 a1 j hj) (two b c)
+    (below-two (λ j. Whole (two d e j) (two b c j)) hb hc) in (
       one-then-other S (two b c) _ t 0 1 (order-two 0 1 (omega arith) (omega arith) (omega arith)) hd he,
       one-then-other S (two b c) _ t 1 0 (order-two 1 0 (omega arith) (omega arith) (omega arith)) he hd,
     )

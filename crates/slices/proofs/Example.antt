@@ -119,7 +119,9 @@ computed : (afterCalls fill copy false true m cs .memory ≡ 49151 ∷ 10 ∷ 17
     ≡ record { answer = 0; place = 3; v = true; request = false; saddr = 0; daddr = 16; dydx = 65540; settings = fill .settings })
     × (afterCalls fill copy false true m cs .held 1
     ≡ record { answer = 0; place = 2; v = true; request = false; saddr = 48; daddr = 28; dydx = 65538; settings = copy .settings })
-unfolding run next outcome outcomeAt drawn refusal refusalOf vAfter drawingOf part destStart srcStart clipped common xyAddress badXYPitch leavesMemory reaches addressOf visits drawnAt sourceAt plotted wordAfter withPixel pixelAfter result processed operations pixelOf
+unfolding run next outcome outcomeAt drawn refusal refusalOf vAfter drawingOf part destStart srcStart clipped common xyAddress
+    badXYPitch leavesMemory reaches addressOf visits drawnAt sourceAt plotted wordAfter withPixel pixelAfter result processed
+    operations pixelOf
 computed = (refl, refl, refl)
 
 applied : OneThenOther 0 1 fill copy false true 3 9 m (afterCalls fill copy false true m cs)

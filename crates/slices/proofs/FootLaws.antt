@@ -78,7 +78,9 @@ module _ (op : Operation) (s : Settings) (k w : ℕ) (p : Passes op s k w) (i : 
   unfolding drawingOf
   src-fits e =
       let c : copiesPixels (sourceOf op) ≡ true = ap copiesPixels e in
-      subst (λ (k : Source). addressOf (srcStart op s (part op s)) (part op s .cols) (s .sptch) (stepOf k (s .psize)) i % 16 + s .psize ≤ 16) (sym e)
+      subst
+      (λ (k : Source). addressOf (srcStart op s (part op s)) (part op s .cols) (s .sptch) (stepOf k (s .psize)) i % 16 + s .psize ≤ 16)
+      (sym e)
       (walk-room (s .psize) (p .size) (srcStart op s (part op s)) _ (s .sptch) i
       (or-false-right (fromXY op && negativeStart (s .saddr) (part op s)) _ (and-false _ _ c (or-false-right badTo badFrom starts)))
       (multiple-of-badPitch (fromXY op) (s .sptch) (and-false _ _ c (or-false-right (badPitch (toXY op) (s .dptch)) _ (p .pitches)))))

@@ -12,7 +12,8 @@ use Rattle.interleave.proofs.VisitLaws.{upto}
 use Rattle.interleave.proofs.OrderLaws.{someOrder}
 use Rattle.interleave.proofs.JobLaws.{ordered, upto-good, obs-ordered, alone}
 use Rattle.slices.specs.Calls.{Held, Call, slice, other, State, memoryAfter, next, run}
-use Rattle.slices.specs.Demand3.{walkOf, pixelsOf, Accepted, Drawings, Fine, reached, Done, inTurn, AnyDrawings, StoppedAnywhere, OthersStay, DoneForGood}
+use Rattle.slices.specs.Demand3.{walkOf, pixelsOf, Accepted, Drawings, Fine, reached, Done, inTurn, AnyDrawings, StoppedAnywhere}
+use Rattle.slices.specs.Demand3.{OthersStay, DoneForGood}
 use Rattle.slices.proofs.CallLaws.{number, heldAt, memory-zero, memory-refused, handed-whole, answer-place, place-answer}
 use Rattle.slices.proofs.CountLaws.{cnt, step, cnt-live, cnt-none, commuting, step-keeps, step-keeps-all}
 use Rattle.slices.proofs.Invariant.{Inv, Drew, places, moved, moved-here, moved-there}
@@ -32,7 +33,8 @@ module _ {w : ℕ} (S : Drawings w) where
       ∙ sym (memory-refused (S .jobs j) 0 b m (λ z. hr (ap (number (S .jobs j) 0) (sym (g .size)) ∙ z))))
 
   -- drawings up to their places, one after another, by one call each
-  in-turn : (p b : ℕ → ℕ) → ((j : ℕ) → p j ≤ cnt S j) → ((j : ℕ) → j < S .count → Accepted w (S .jobs j) → min (b j) (pixelsOf (S .jobs j)) ≡ p j)
+  in-turn : (p b : ℕ → ℕ) → ((j : ℕ) → p j ≤ cnt S j)
+      → ((j : ℕ) → j < S .count → Accepted w (S .jobs j) → min (b j) (pixelsOf (S .jobs j)) ≡ p j)
       → (os : List ℕ) → ((j : ℕ) → In j os → j < S .count) → (m : List ℕ) → Memory w m
       → ordered (step S) p os m ≡ inTurn (S .jobs) b os m
   unfolding ordered inTurn
@@ -66,7 +68,8 @@ module _ {w : ℕ} (S : Drawings w) where
       (λ q. subst (λ (y : ℕ). moved S s x c .held y .answer ≡ 0) (sym q)
       (ap (λ (h : Held). h .answer) (moved-here S s x c)
       ∙ place-answer (S .jobs x) (places s x + c) (S .firstV x)
-      (let p : places s x ≡ pixelsOf (S .jobs x) = subst (λ (y : ℕ). places s y ≡ pixelsOf (S .jobs y)) q (done-place s I j a) in omega arith)))
+      (let p : places s x ≡ pixelsOf (S .jobs x) = subst (λ (y : ℕ). places s y ≡ pixelsOf (S .jobs y)) q (done-place s I j a) in
+      omega arith)))
       (λ ne. ap (λ (h : Held). h .answer) (moved-there S s x c j ne) ∙ a)
 
   stays-run : (ds : List Call) → Fine w (S .count) ds → (s : State) → Inv S s → (j : ℕ) → Done s j → Done (run (S .jobs) ds s) j
@@ -86,7 +89,9 @@ any-drawings w S cs f d b hb =
     let e : (j : ℕ) → j < S .count → Accepted w (S .jobs j) → places s j ≡ pixelsOf (S .jobs j) =
     λ j hj hr. done-place S s I j (d j hj hr) in
     record {
-      memory = λ os o. I .mem os o ∙ in-turn S (places s) b (I .fits) (λ j hj hr. omega (arith, e j hj hr, hb j hj)) os (o .only) (S .memory) (S .good);
+      memory =
+          λ os o. I .mem os o
+          ∙ in-turn S (places s) b (I .fits) (λ j hj hr. omega (arith, e j hj hr, hb j hj)) os (o .only) (S .memory) (S .good);
       held = λ j hj hr m g.
           done-drew S s I j (d j hj hr) .holds ∙ ap (λ (k : ℕ). heldAt (S .jobs j) k (S .firstV j)) (e j hj hr)
           ∙ sym (handed-whole (S .jobs j) (b j) (S .firstV j) m (ap (number (S .jobs j) 0) g ∙ hr) (hb j hj));
@@ -100,9 +105,11 @@ stopped-anywhere w S cs f j hj hr a y =
     let I : Inv S s = inv-ran S cs f in
     let o = someOrder (S .count) in
     ap (λ (m : List ℕ). bitAt m a) (I .mem (o .0) (o .1))
-    ∙ alone (commuting S) (places s) (I .fits) (λ m. bitAt m a) j (step-keeps S j hj hr a y) (o .0) (o .1 .once) (o .1 .all j hj) (S .memory) (S .good)
+    ∙ alone (commuting S) (places s) (I .fits) (λ m. bitAt m a) j (step-keeps S j hj hr a y) (o .0) (o .1 .once)
+    (o .1 .all j hj) (S .memory) (S .good)
     ∙ ap (λ (m : List ℕ). bitAt m a)
-    (sym (memory-zero (S .jobs j) (places s j) (places s j) (S .memory) (ap (number (S .jobs j) 0) (S .good .size) ∙ hr) (omega (arith, place-le S s I j hj hr))))
+    (sym (memory-zero (S .jobs j) (places s j) (places s j) (S .memory) (ap (number (S .jobs j) 0) (S .good .size) ∙ hr)
+    (omega (arith, place-le S s I j hj hr))))
 
 -- no drawing has the number S .count, so all that stand in an order are others
 pub others-stay : OthersStay

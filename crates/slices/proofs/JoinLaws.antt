@@ -19,7 +19,8 @@ use Rattle.refusals.specs.Refusal.{refusal}
 use Rattle.drawing.specs.Draw.{refused, outcomeAt, visitedBy, outcome, drawn}
 use Rattle.refusals.proofs.RefusalLaws.{place-le}
 use Rattle.slices.specs.Joined.{together, total, handedBy, leftBy}
-use Rattle.slices.proofs.OutcomeLaws.{at, refusal-moved, vAfter-twice, outcome-accepted, outcome-refused, drawn-accepted, drawn-refused}
+use Rattle.slices.proofs.OutcomeLaws.{at, refusal-moved, vAfter-twice, outcome-accepted, outcome-refused, drawn-accepted}
+use Rattle.slices.proofs.OutcomeLaws.{drawn-refused}
 
 module _ (op : Operation) (s : Settings) where
   module _ (k : ℕ) (v : Bool) (b c : ℕ) (m : List ℕ) where
@@ -64,7 +65,8 @@ module _ (op : Operation) (s : Settings) where
           ∙ outcome-accepted op s k′ (vAfter op s v) c (length m) goes-on
           ∙ ap (λ (u : Bool). at op s u (k′ + visitedBy op s k′ c) (visitedBy op s k′ c)) (vAfter-twice op s v)
 
-      both-is : outcome op s k v (b + c) (length m) ≡ at op s (vAfter op s v) (k′ + visitedBy op s k′ c) (visitedBy op s k b + visitedBy op s k′ c)
+      both-is : outcome op s k v (b + c) (length m)
+          ≡ at op s (vAfter op s v) (k′ + visitedBy op s k′ c) (visitedBy op s k b + visitedBy op s k′ c)
       both-is =
           let moved : k + visitedBy op s k (b + c) ≡ k′ + visitedBy op s k′ c = omega (arith, counts) in
           outcome-accepted op s k v (b + c) (length m) e

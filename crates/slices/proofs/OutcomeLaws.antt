@@ -23,7 +23,8 @@ use Rattle.drawing.specs.Draw.{refused, outcomeAt, visitedBy, outcome, drawn}
 use Rattle.refusals.proofs.RefusalLaws.{passes, refusal-of-passes}
 
 -- only 15 looks at the place
-pub refusal-moved : (op : Operation) (s : Settings) (k k′ w : ℕ) → refusal op s k w ≡ 0 → k′ ≤ pixels (drawingFor op s) → refusal op s k′ w ≡ 0
+pub refusal-moved : (op : Operation) (s : Settings) (k k′ w : ℕ) → refusal op s k w ≡ 0
+    → k′ ≤ pixels (drawingFor op s) → refusal op s k′ w ≡ 0
 refusal-moved op s k k′ w e h =
     let p = passes op s k w e in
     refusal-of-passes op s k′ w
@@ -61,7 +62,8 @@ module _ (op : Operation) (s : Settings) where
   unfolding outcome
   outcome-refused k v b w e = rw (ne-eqb _ _ e)
 
-  pub drawn-accepted : (k b : ℕ) (m : List ℕ) → refusal op s k (length m) ≡ 0 → drawn op s k b m ≡ visits (drawingFor op s) k (visitedBy op s k b) m
+  pub drawn-accepted : (k b : ℕ) (m : List ℕ) → refusal op s k (length m) ≡ 0
+      → drawn op s k b m ≡ visits (drawingFor op s) k (visitedBy op s k b) m
   unfolding drawn
   drawn-accepted k b m e = rw (eq-eqb _ _ e)
 

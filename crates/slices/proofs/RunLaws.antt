@@ -12,7 +12,8 @@ use Rattle.refusals.proofs.RefusalLaws.{refusal-ten}
 use Rattle.slices.specs.Calls.{Job, Held, Call, slice, other, State, handedBack, after, next, run, start}
 use Rattle.slices.specs.Demand3.{pixelsOf, Accepted, Drawings, Fine, reached}
 use Rattle.slices.proofs.OutcomeLaws.{refusal-moved, vAfter-twice}
-use Rattle.slices.proofs.CallLaws.{cond-eq, cond-ne, number, flag, visitedOf, heldAt, heldAt-flag, heldAt-v, handed-accepted, handed-refused, memory-accepted, memory-refused, after-accepted, after-refused}
+use Rattle.slices.proofs.CallLaws.{cond-eq, cond-ne, number, flag, visitedOf, heldAt, heldAt-flag, heldAt-v, handed-accepted}
+use Rattle.slices.proofs.CallLaws.{handed-refused, memory-accepted, memory-refused, after-accepted, after-refused}
 use Rattle.slices.proofs.CountLaws.{cnt-live, cnt-none, step}
 use Rattle.slices.proofs.Invariant.{Inv, places, moved, inv-start, inv-moved}
 
@@ -39,7 +40,9 @@ module _ {w : ℕ} (S : Drawings w) where
       let d : Job = S .jobs j in
       let k : ℕ = places s j in
       let v : Bool = s .held j .v in
-      let e : number d k (length (s .memory)) ≡ 0 = ap (number d k) (I .good .size) ∙ refusal-moved (d .operation) (d .settings) 0 k w hr (omega (arith, I .fits j, cnt-live S j hj hr)) in
+      let e : number d k (length (s .memory)) ≡ 0 =
+      ap (number d k) (I .good .size)
+      ∙ refusal-moved (d .operation) (d .settings) 0 k w hr (omega (arith, I .fits j, cnt-live S j hj hr)) in
       let h : after (handedBack d k b v (s .memory)) (s .held j) ≡ heldAt d (k + visitedOf d k b) (S .firstV j) =
       ap (λ (r : Held). after r (s .held j)) (handed-accepted d k b v (s .memory) e)
       ∙ after-accepted d (k + visitedOf d k b) v (s .held j)
@@ -58,7 +61,8 @@ module _ {w : ℕ} (S : Drawings w) where
       let e : number d k (length (s .memory)) ≢ 0 = λ y. hr (sym q ∙ y) in
       let h : after (handedBack d k b v (s .memory)) (s .held j) ≡ s .held j =
       ap (λ (r : Held). after r (s .held j)) (handed-refused d k b v (s .memory) e)
-      ∙ after-refused d k v (number d k (length (s .memory))) (s .held j) (omega (arith, q, refusal-ten (d .operation) (d .settings) 0 w hr)) in
+      ∙ after-refused d k v (number d k (length (s .memory))) (s .held j)
+      (omega (arith, q, refusal-ten (d .operation) (d .settings) 0 w hr)) in
       let hs : (x : ℕ) → cond (eqb x j) (after (handedBack d k b v (s .memory)) (s .held j)) (s .held x) ≡ s .held x =
       λ x. ap (λ (g : Held). cond (eqb x j) g (s .held x)) h ∙ same-held (s .held) j x in
       λ i. record { memory = memory-refused d k b (s .memory) e i; held = λ x. hs x i }
@@ -89,7 +93,8 @@ module _ {w : ℕ} (S : Drawings w) where
   unfolding run
   inv-run [] f s I = I
   inv-run (slice j b ∷ cs) f s I = inv-run cs (f .1) (next (S .jobs) (slice j b) s) (inv-came s I j (f .0) _ (came s I j b (f .0)))
-  inv-run (other d k b v ∷ cs) f s I = inv-run cs (f .1) (next (S .jobs) (other d k b v) s) (subst (Inv S) (sym (next-other s I d k b v (f .0))) I)
+  inv-run (other d k b v ∷ cs) f s I =
+      inv-run cs (f .1) (next (S .jobs) (other d k b v) s) (subst (Inv S) (sym (next-other s I d k b v (f .0))) I)
 
   pub inv-ran : (cs : List Call) → Fine w (S .count) cs → Inv S (reached S cs)
   inv-ran cs f = inv-run cs f (start (S .jobs) (S .firstV) (S .memory)) (inv-start S)
