@@ -23,7 +23,10 @@ use Rattle.points.specs.Points.{indices}
 use Rattle.figures.specs.Figures.{Figures}
 
 pub figures : Figures
-unfolding bitOf bitAt number refusal register fieldRead caseOf stepped any first anyPair badState latest lookup fetched operations processed pixelOf result pixelAfter withPixel wordAfter xyAddress badXYPitch common clipped addressOf reaches leavesMemory xyDestination lone.refusal dravOf part vAfter destStart srcStart drawingOf refusalOf drawing.refusal outcomeAt outcome count indices
+unfolding bitOf bitAt number refusal register fieldRead caseOf stepped any first anyPair badState latest lookup fetched operations
+    processed pixelOf result pixelAfter withPixel wordAfter xyAddress badXYPitch common clipped addressOf reaches leavesMemory
+    xyDestination lone.refusal dravOf part vAfter destStart srcStart drawingOf refusalOf drawing.refusal outcomeAt outcome count
+    indices
 figures =
     record {
       field = refl;
