@@ -14,7 +14,8 @@ use Rattle.run.proofs.ExampleLaws.{example}
 use Rattle.theorems.specs.Example.{planText, ExampleListed, OfExample}
 
 read : reading planText ≡ accepted 4 0 exampleAxes
-unfolding any first anyPair before parts same areDigits decimal numberOf limit memoryOf drawOf nameOf valuesOf badForm refusal kept axisLines drawLine memoryLine reading
+unfolding any first anyPair before parts same areDigits decimal numberOf limit memoryOf drawOf nameOf valuesOf badForm refusal
+    kept axisLines drawLine memoryLine reading
 read = refl
 
 pub example-listed : ExampleListed

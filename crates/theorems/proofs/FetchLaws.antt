@@ -15,7 +15,8 @@ pub fresh-accepted : badState freshCache ≡ false
 unfolding any anyPair badState
 fresh-accepted = refl
 
-pub fetch-accepted : (c : Cache) (address control : ℕ) → address < 2 ^ 32 → badState c ≡ false → badState (fetched c address control .cache) ≡ false
+pub fetch-accepted : (c : Cache) (address control : ℕ) → address < 2 ^ 32 → badState c ≡ false
+    → badState (fetched c address control .cache) ≡ false
 fetch-accepted c address control l ok = go (disabled control) refl
   where
     go : (b : Bool) → disabled control ≡ b → badState (fetched c address control .cache) ≡ false

@@ -8,7 +8,8 @@ use Rattle.field.proofs.RoundLaws as field
 use Rattle.timing.proofs.CaseLaws as timing
 use Rattle.image.proofs.SeedLaws as image
 use Rattle.theorems.proofs.ChangedLaws.{same-of-changedBits}
-use Rattle.theorems.specs.Memory.{BitsDecide, ChangedDecides, ReadBack, WriteFrame, WriteBack, PastEnd, OneCase, SeedsDiffer, OfMemory}
+use Rattle.theorems.specs.Memory.{BitsDecide, ChangedDecides, ReadBack, WriteFrame, WriteBack, PastEnd, OneCase, SeedsDiffer}
+use Rattle.theorems.specs.Memory.{OfMemory}
 
 pub bits-decide : BitsDecide
 bits-decide n m m′ g g′ e = memory.memory-ext g g′ e

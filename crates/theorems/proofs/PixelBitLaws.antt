@@ -30,7 +30,9 @@ module _ (pp : ℕ) (t : Bool) (p mask s d j : ℕ) (h : j < p) where
 
   -- the bit that it gets, by the bit b of its mask
   abbrev gets : ℕ → ℕ
-  gets b = cond (eqb b 1 || (t && eqb (result pp top mask s d) 0)) (bitOf d j) (bitOf (processed pp top (unmasked top mask s) (unmasked top mask d)) j)
+  gets b =
+      cond (eqb b 1 || (t && eqb (result pp top mask s d) 0)) (bitOf d j)
+      (bitOf (processed pp top (unmasked top mask s) (unmasked top mask d)) j)
 
   bit-result : bitOf mask j ≡ 0 → bitOf (result pp top mask s d) j ≡ bitOf (processed pp top (unmasked top mask s) (unmasked top mask d)) j
   unfolding result
@@ -45,7 +47,8 @@ module _ (pp : ℕ) (t : Bool) (p mask s d j : ℕ) (h : j < p) where
       (λ e. bit-masked pp t p mask s d j h e ∙ ap gets (sym e))
       (bit-cases (bit-lt mask j))
 
-module _ (pp : ℕ) (t : Bool) (p pmask a n : ℕ) (m : List ℕ) (s j : ℕ) (fit : a % 16 + p ≤ 16) (g : Memory n m) (l : a < 16 * n) (h : j < p) where
+module _ (pp : ℕ) (t : Bool) (p pmask a n : ℕ) (m : List ℕ) (s j : ℕ) (fit : a % 16 + p ≤ 16) (g : Memory n m)
+    (l : a < 16 * n) (h : j < p) where
   abbrev mask : ℕ
   mask = pixelOf (2 ^ p - 1) pmask a
 
@@ -59,7 +62,8 @@ module _ (pp : ℕ) (t : Bool) (p pmask a n : ℕ) (m : List ℕ) (s j : ℕ) (f
   bit-plotted =
       let o : a + j - a ≡ j = omega arith in
       bitAt-plotted pp t p pmask a fit s g l (a + j)
-      ∙ ap (λ (u : Bool). cond u (bitOf (pixelAfter pp t (2 ^ p - 1) mask s old) (a + j - a)) (bitAt m (a + j))) (within-inside a p (a + j) (omega arith) (omega arith))
+      ∙ ap (λ (u : Bool). cond u (bitOf (pixelAfter pp t (2 ^ p - 1) mask s old) (a + j - a)) (bitAt m (a + j)))
+      (within-inside a p (a + j) (omega arith) (omega arith))
       ∙ ap (bitOf (pixelAfter pp t (2 ^ p - 1) mask s old)) o
       ∙ bit-after pp t p mask s old j h
       ∙ ap₂ (λ (b d : ℕ).

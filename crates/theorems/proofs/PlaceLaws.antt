@@ -46,7 +46,8 @@ walk-xy offset pitch psize x y cols i hx hy =
 abbrev In : (cols rows x left y above a b : ℕ) → Type 0
 In cols rows x left y above a b = (x + left ≤ a) × (a < x + left + cols) × (y + above ≤ b) × (b < y + above + rows)
 
-row-col : (cols rows i : ℕ) → i < cols * rows → (x left y above : ℕ) → In cols rows x left y above (x + (left + i % cols)) (y + (above + i / cols))
+row-col : (cols rows i : ℕ) → i < cols * rows → (x left y above : ℕ)
+    → In cols rows x left y above (x + (left + i % cols)) (y + (above + i / cols))
 row-col cols rows i h x left y above =
     let pos : 0 < cols = pos-of-ne-zero (λ z. omega (arith, ap (λ (c : ℕ). c * rows) z, zero-mul rows)) in
     let c : i % cols < cols = mod-lt i pos in
@@ -91,7 +92,8 @@ not-negative x y e = (
   ltb-false y (2 ^ 15) (or-false-right (negative x) (negative y) e),
 )
 
-module _ (op : Operation) (s : Settings) (place words : ℕ) (e : refusal op s place words ≡ 0) (i : ℕ) (h : i < pixels (drawingFor op s)) where
+module _ (op : Operation) (s : Settings) (place words : ℕ) (e : refusal op s place words ≡ 0) (i : ℕ)
+    (h : i < pixels (drawingFor op s)) where
   abbrev badTo : Bool
   badTo = badDest op s (part op s) (drawingFor op s)
 
@@ -117,21 +119,25 @@ module _ (op : Operation) (s : Settings) (place words : ℕ) (e : refusal op s p
   walk-place start pitch n =
       let p = not-negative (startX start (part op s)) (startY start (part op s)) n in
       walk-xy (s .offset) pitch (s .psize) (startX start (part op s)) (startY start (part op s)) cols i (p .0) (p .1)
-      ∙ ap₂ (λ (x y : ℕ). xyAddress (s .offset) pitch (s .psize) x y) (add-assoc (xOf start) left (i % cols)) (add-assoc (yOf start) above (i / cols))
+      ∙ ap₂ (λ (x y : ℕ). xyAddress (s .offset) pitch (s .psize) x y) (add-assoc (xOf start) left (i % cols))
+      (add-assoc (yOf start) above (i / cols))
 
-  linear-place : toXY op ≡ false → addressOf (s .daddr) cols (s .dptch) (s .psize) i ≡ (s .daddr + rowOf op s i * s .dptch + columnOf op s i * s .psize) % 2 ^ 32
+  linear-place : toXY op ≡ false
+      → addressOf (s .daddr) cols (s .dptch) (s .psize) i ≡ (s .daddr + rowOf op s i * s .dptch + columnOf op s i * s .psize) % 2 ^ 32
   unfolding addressOf
   linear-place q =
       let r : i / cols ≡ rowOf op s i = omega (arith, linear-above op s q) in
       let c : i % cols ≡ columnOf op s i = omega (arith, linear-left op s q) in
       ap₂ (λ (y x : ℕ). (s .daddr + y * s .dptch + x * s .psize) % 2 ^ 32) r c
 
-  pub dest-place : destOf (drawingFor op s) i ≡ placeAt (toXY op) (s .offset) (s .daddr) (s .dptch) (s .psize) (columnOf op s i) (rowOf op s i)
+  pub dest-place : destOf (drawingFor op s) i
+      ≡ placeAt (toXY op) (s .offset) (s .daddr) (s .dptch) (s .psize) (columnOf op s i) (rowOf op s i)
   unfolding drawingOf destStart
   dest-place = go (toXY op) refl
     where
       go : (t : Bool) → toXY op ≡ t
-          → addressOf (cond t (xyAddress (s .offset) (s .dptch) (s .psize) (startX (s .daddr) (part op s)) (startY (s .daddr) (part op s))) (s .daddr)) cols (s .dptch) (s .psize) i
+          → addressOf (cond t (xyAddress (s .offset) (s .dptch) (s .psize) (startX (s .daddr) (part op s)) (startY (s .daddr) (part op s)))
+          (s .daddr)) cols (s .dptch) (s .psize) i
           ≡ placeAt t (s .offset) (s .daddr) (s .dptch) (s .psize) (columnOf op s i) (rowOf op s i)
       go true q =
           walk-place (s .daddr) (s .dptch)
@@ -168,7 +174,8 @@ module _ (op : Operation) (s : Settings) (place words : ℕ) (e : refusal op s p
       go true q =
           subst
           (λ (x : Source).
-          addressOf (xyAddress (s .offset) (s .sptch) (s .psize) (startX (s .saddr) (part op s)) (startY (s .saddr) (part op s))) cols (s .sptch) (stepOf x (s .psize)) i
+          addressOf (xyAddress (s .offset) (s .sptch) (s .psize) (startX (s .saddr) (part op s)) (startY (s .saddr) (part op s))) cols
+          (s .sptch) (stepOf x (s .psize)) i
           ≡ xyAddress (s .offset) (s .sptch) (stepOf x (s .psize)) (xOf (s .saddr) + columnOf op s i) (yOf (s .saddr) + rowOf op s i))
           (sym (xy-pixels op q)) (walk-place (s .saddr) (s .sptch) (xy-source q))
       go false q = linear-source

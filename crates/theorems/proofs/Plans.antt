@@ -7,7 +7,7 @@ use native.Mathlib.Omega.{arith}
 use borrow.Author.Tests.{le-ltb, ne-eqb, eq-eqb}
 use lib.Dec.{ltb}
 use lib.ListN.{length}
-use Rattle.memory.specs.Bits.{noMemory}
+use Rattle.memory.specs.Bits.{mostWords, noMemory}
 use Rattle.points.specs.Axes.{Axis, count}
 use Rattle.points.specs.Table.{axesIn}
 use Rattle.points.proofs.TableLaws.{axesIn-tableOf, pointsIn-tableOf}
@@ -22,14 +22,16 @@ use Rattle.plan.proofs.PlanLaws.{planOf-room, tableAfter-accepted}
 use Rattle.run.proofs.LinesLaws.{pointLines-add}
 use Rattle.run.proofs.ValuesLaws.{settings-kept, seeds-told}
 use Rattle.run.specs.Lines.{pointLines, longest, badShape, badPoints, written}
-use Rattle.theorems.specs.Plans.{NumbersAreExperiments, TableIsPlan, RunIsListing, PartsJoin, NamesHaveValues, SettingsArrive, SeedsArrive, OfPlans}
+use Rattle.theorems.specs.Plans.{NumbersAreExperiments, TableIsPlan, RunIsListing, PartsJoin, NamesHaveValues, SettingsArrive}
+use Rattle.theorems.specs.Plans.{SeedsArrive, OfPlans}
 
 pub numbers-are-experiments : NumbersAreExperiments
 numbers-are-experiments text e = pointsOneToOne (reading text .axes) (reading-sound text)
 
 -- the table of a plan that is accepted
 table-is : (text t : List ℕ) → room ≤ length t → reading text .answer ≡ 0 → tableAfter text t ≡ stored (reading text .axes) t
-table-is text t h e = tableAfter-accepted text t (ap (λ (p : Plan). p .answer) (planOf-room text t h) ∙ rw (eq-eqb (reading text .answer) 0 e))
+table-is text t h e =
+    tableAfter-accepted text t (ap (λ (p : Plan). p .answer) (planOf-room text t h) ∙ rw (eq-eqb (reading text .answer) 0 e))
 
 pub table-is-plan : TableIsPlan
 table-is-plan text t h e =
@@ -37,7 +39,8 @@ table-is-plan text t h e =
     rw (table-is text t h e)
     (axesIn-tableOf axes _, pointsIn-tableOf axes _ (reading-sound text))
 
-written-of : (words size draw axes first k : ℕ) (t : List ℕ) → badShape words words draw k size ≡ false → noMemory words ≡ false → badPoints axes t first k ≡ false
+written-of : (words size draw axes first k : ℕ) (t : List ℕ) → badShape words words draw k size ≡ false → noMemory words ≡ false
+    → badPoints axes t first k ≡ false
     → written words words size draw axes t first k ≡ pointLines words draw (axesIn axes t) first k
 written-of words size draw axes first k t b n p = rw (b, n, p)
 
@@ -46,13 +49,14 @@ shape-of words draw k size h d r =
     rw (le-ltb 32768 words h, eq-eqb words words refl, le-ltb 7 draw (omega arith), le-ltb size (longest * k) r)
 
 some-of : (words : ℕ) → 1 ≤ words → words ≤ 32768 → noMemory words ≡ false
-some-of words l h = rw (ne-eqb words 0 (omega arith), le-ltb 1048576 words (omega arith))
+some-of words l h = rw (ne-eqb words 0 (omega arith), le-ltb mostWords words (omega arith))
 
 pub run-is-listing : RunIsListing
 run-is-listing text t first k size h e l r =
     let a = reading-accepted text e in
     let p = table-is-plan text t h e in
-    written-of _ size _ _ first k _ (shape-of _ _ k size (a .words-le) (a .draw-lt) r) (some-of _ (a .some-words) (a .words-le)) (rw (p .1, le-ltb (count (reading text .axes)) (first + k) l) (and-false (ltb 0 k)))
+    written-of _ size _ _ first k _ (shape-of _ _ k size (a .words-le) (a .draw-lt) r) (some-of _ (a .some-words) (a .words-le))
+    (rw (p .1, le-ltb (count (reading text .axes)) (first + k) l) (and-false (ltb 0 k)))
     ∙ ap (λ (axes : List Axis). pointLines (reading text .words) (reading text .draw) axes first k) (p .0)
 
 pub parts-join : PartsJoin

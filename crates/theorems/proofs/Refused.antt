@@ -16,7 +16,8 @@ use Rattle.refusals.proofs.RefusalLaws.{refusal-ten}
 use Rattle.slices.proofs.OutcomeLaws.{outcome-refused}
 use Rattle.run.proofs.LinesLaws.{refusal-le}
 use Rattle.plan.proofs.PlanLaws.{tableAfter-refused}
-use Rattle.theorems.specs.Refused.{DrawRefused, DrawAccepted, DrawNumbers, PixtRefused, DravRefused, WriteRefused, ImageRefused, FetchRefused, PlanRefused, OfRefusals}
+use Rattle.theorems.specs.Refused.{DrawRefused, DrawAccepted, DrawNumbers, PixtRefused, DravRefused, WriteRefused, ImageRefused}
+use Rattle.theorems.specs.Refused.{FetchRefused, PlanRefused, OfRefusals}
 
 pub draw-refused : DrawRefused
 unfolding outcome drawn

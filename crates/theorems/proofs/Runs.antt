@@ -33,7 +33,8 @@ use Rattle.run.proofs.LinesLaws.{refusal-le, pointLines-add}
 use Rattle.run.proofs.AnswerLaws.{endsPast-of-point, endsPast-of-none}
 use Rattle.run.proofs.ValuesLaws.{settings-kept-small}
 use Rattle.theorems.specs.Plans.{linesFrom}
-use Rattle.theorems.specs.Runs.{RefusedPoint, PointsAreWhole, PartIsListing, PartsAreOne, NumbersReadBack, OneWriting, CountFits, AnswersInOrder, ShownIsRun, OfRuns}
+use Rattle.theorems.specs.Runs.{RefusedPoint, PointsAreWhole, PartIsListing, PartsAreOne, NumbersReadBack, OneWriting, CountFits}
+use Rattle.theorems.specs.Runs.{AnswersInOrder, ShownIsRun, OfRuns}
 use Rattle.theorems.proofs.WritingLaws.{numberOf-decimal}
 
 -- Points
@@ -62,7 +63,8 @@ whole-or-refused op s m h = go (eqb (refusal op s 0 (length m)) 0) refl
     go false e = inr (refused-point op s m (eqb-false _ _ e))
 
 pub points-are-whole : PointsAreWhole
-points-are-whole words draw axes n = whole-or-refused (operationOf draw) (settingsOf (experiment axes n)) (imageFor words (experiment axes n)) (dydx-lt (experiment axes n))
+points-are-whole words draw axes n =
+    whole-or-refused (operationOf draw) (settingsOf (experiment axes n)) (imageFor words (experiment axes n)) (dydx-lt (experiment axes n))
 
 -- Parts
 
@@ -74,13 +76,17 @@ part-is-listing text k h = rw (min-all (count (reading text .axes)) k h)
 
 -- the lines of two parts that follow one another, of so many points in all
 module _ (r : Reading) (c first j k : ℕ) where
-  lines-within : j ≤ c - first → linesFrom r first (min j (c - first)) ++ linesFrom r (first + j) (min k (c - (first + j))) ≡ linesFrom r first (min (j + k) (c - first))
+  lines-within : j ≤ c - first
+      → linesFrom r first (min j (c - first)) ++ linesFrom r (first + j) (min k (c - (first + j)))
+      ≡ linesFrom r first (min (j + k) (c - first))
   lines-within h =
       let one : min j (c - first) ≡ j = omega arith in
       let both : min (j + k) (c - first) ≡ j + min k (c - (first + j)) = omega arith in
       rw (one, both) (sym (pointLines-add (r .words) (r .draw) (r .axes) first j (min k (c - (first + j)))))
 
-  lines-past : c - first < j → linesFrom r first (min j (c - first)) ++ linesFrom r (first + j) (min k (c - (first + j))) ≡ linesFrom r first (min (j + k) (c - first))
+  lines-past : c - first < j
+      → linesFrom r first (min j (c - first)) ++ linesFrom r (first + j) (min k (c - (first + j)))
+      ≡ linesFrom r first (min (j + k) (c - first))
   unfolding pointLines
   lines-past h =
       let one : min j (c - first) ≡ c - first = omega arith in
@@ -88,10 +94,13 @@ module _ (r : Reading) (c first j k : ℕ) where
       let both : min (j + k) (c - first) ≡ c - first = omega arith in
       rw (one, none, both) (append-nil _)
 
-  lines-join : linesFrom r first (min j (c - first)) ++ linesFrom r (first + j) (min k (c - (first + j))) ≡ linesFrom r first (min (j + k) (c - first))
+  lines-join : linesFrom r first (min j (c - first)) ++ linesFrom r (first + j) (min k (c - (first + j)))
+      ≡ linesFrom r first (min (j + k) (c - first))
   lines-join = go (leb j (c - first)) refl
     where
-      go : (b : Bool) → leb j (c - first) ≡ b → linesFrom r first (min j (c - first)) ++ linesFrom r (first + j) (min k (c - (first + j))) ≡ linesFrom r first (min (j + k) (c - first))
+      go : (b : Bool) → leb j (c - first) ≡ b
+          → linesFrom r first (min j (c - first)) ++ linesFrom r (first + j) (min k (c - (first + j)))
+          ≡ linesFrom r first (min (j + k) (c - first))
       go true e = lines-within (leb-true _ _ e)
       go false e = lines-past (leb-false _ _ e)
 

@@ -15,7 +15,8 @@ use Rattle.windows.specs.declared.Rectangle.{Rectangle}
 use Rattle.windows.specs.declared.Window.{Window}
 use Rattle.windows.specs.declared.Clipped.{Clipped}
 use Rattle.address.proofs.Arithmetic.{positive-left, positive-right}
-use Rattle.windows.proofs.WindowLaws.{clipped-zero, filled-of-pixel, seen-of-inside, inside-of-seen, meet-of-pixel, pixel-of-meet, pixel-of-common, seen-of-common}
+use Rattle.windows.proofs.WindowLaws.{clipped-zero, filled-of-pixel, seen-of-inside, inside-of-seen, meet-of-pixel, pixel-of-meet}
+use Rattle.windows.proofs.WindowLaws.{pixel-of-common, seen-of-common}
 use Rattle.settings.specs.declared.Settings.{Settings}
 use Rattle.operation.specs.declared.Operation.{Operation}
 use Rattle.drawing.specs.declared.Outcome.{Outcome}
@@ -71,7 +72,9 @@ module _ (r : Rectangle) (win : Window) where
 
   outside-iff : ((not (empty r) && not (inside r win)) ≡ true) ↔ Outside r win
   outside-iff = (
-    λ e. let p = and-eq-true-iff (not (empty r)) (not (inside r win)) .0 e in outside-of-filled (not-true (empty r) (p .0)) (not-true (inside r win) (p .1)),
+    λ e.
+        let p = and-eq-true-iff (not (empty r)) (not (inside r win)) .0 e in
+        outside-of-filled (not-true (empty r) (p .0)) (not-true (inside r win) (p .1)),
     λ (a, b, p, n). rw (filled-of-pixel r a b p, not-inside a b p n),
   )
 

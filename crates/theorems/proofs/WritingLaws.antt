@@ -33,7 +33,8 @@ unfolding areDigits
 areDigits-snoc c [] d e = rw d
 areDigits-snoc c (b ∷ cs) d e = go (isDigit b) e (areDigits-snoc c cs d)
   where
-    go : (t : Bool) → (t && areDigits cs) ≡ true → (areDigits cs ≡ true → areDigits (cs ++ (c ∷ [])) ≡ true) → (t && areDigits (cs ++ (c ∷ []))) ≡ true
+    go : (t : Bool) → (t && areDigits cs) ≡ true → (areDigits cs ≡ true → areDigits (cs ++ (c ∷ [])) ≡ true)
+        → (t && areDigits (cs ++ (c ∷ []))) ≡ true
     go true e f = f e
     go false e f = e
 
@@ -91,4 +92,5 @@ numberOf-one n h = digitsOf-written n ((48 + n) ∷ []) (omega arith) (written-o
 
 pub numberOf-decimal : (n : ℕ) → n < 2 ^ 64 → numberOf (decimal n) ≡ Value n
 numberOf-decimal n h =
-    by-size n (λ l. rw (digits-small 19 n l) (numberOf-one n l)) (λ l. numberOf-written n (decimal n) h (omega arith) (written 19 n (omega arith)))
+    by-size n (λ l. rw (digits-small 19 n l) (numberOf-one n l))
+    (λ l. numberOf-written n (decimal n) h (omega arith) (written 19 n (omega arith)))

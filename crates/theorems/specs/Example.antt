@@ -1,4 +1,5 @@
--- The scope's plan and what its run writes ("Plans and images"), byte for byte. The proof is in proofs/Example.antt. Assumes nothing.
+-- The scope's plan and what its run writes ("Plans and images"), byte for byte. The proof is in
+-- proofs/Example.antt. Assumes nothing.
 use mathlib.Core.Path.{_≡_}
 use mathlib.Core.List.{List, [], _∷_}
 use Prim.Native.Nat.{ℕ}

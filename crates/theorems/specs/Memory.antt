@@ -1,6 +1,7 @@
--- Memory, fields and images: what is proved of the definitions that the contracts of `field` and `image` cite, so a statement about
--- `fieldWritten` is one about the memory that `field::write` leaves. `Memory n m` says that m is a run of n words of 16 bits, as every
--- lent run of u16 is. The proofs are in proofs/Memory.antt. Assumes nothing.
+-- Memory, fields and images: what is proved of the definitions that the contracts of `field` and
+-- `image` cite, so a statement about `fieldWritten` is one about the memory that `field::write`
+-- leaves. `Memory n m` says that m is a run of n words of 16 bits, as every lent run of u16 is. The
+-- proofs are in proofs/Memory.antt. Assumes nothing.
 use mathlib.Core.Path.{_≡_}
 use mathlib.Core.Bool.{Bool, true, false}
 use mathlib.Core.List.{List}
@@ -13,26 +14,33 @@ use Rattle.field.specs.Field.{refusal, fieldRead, fieldWritten}
 use Rattle.timing.specs.Cycles.{isCase, cases, caseOf, holding}
 use Rattle.image.specs.Image.{image}
 
--- Two memories of one length with the same bits are the same memory: nothing of a memory is hidden from its bits.
+-- Two memories of one length with the same bits are the same memory: nothing of a
+-- memory is hidden from its bits.
 abbrev pub BitsDecide : Type 0
-BitsDecide = (n : ℕ) (m m′ : List ℕ) → Memory n m → Memory n m′ → ((a : ℕ) → a < 16 * n → bitAt m a ≡ bitAt m′ a) → m ≡ m′
+BitsDecide =
+    (n : ℕ) (m m′ : List ℕ) → Memory n m → Memory n m′
+    → ((a : ℕ) → a < 16 * n → bitAt m a ≡ bitAt m′ a) → m ≡ m′
 
 -- The count of changed bits is 0 exactly where two memories of one length are the same.
 abbrev pub ChangedDecides : Type 0
 ChangedDecides =
-    (n : ℕ) (m m′ : List ℕ) → Memory n m → Memory n m′ → (changedBits m m′ ≡ 0 → m ≡ m′) × (m ≡ m′ → changedBits m m′ ≡ 0)
+    (n : ℕ) (m m′ : List ℕ) → Memory n m → Memory n m′
+    → (changedBits m m′ ≡ 0 → m ≡ m′) × (m ≡ m′ → changedBits m m′ ≡ 0)
 
 -- ---- fields
 
--- Reading what was written gives it back: the n low bits of x, for every size, address and memory that the write is not refused on.
+-- Reading what was written gives it back: the n low bits of x, for every size, address and memory
+-- that the write is not refused on.
 abbrev pub ReadBack : Type 0
 ReadBack =
     (m : List ℕ) (a n x : ℕ) → refusal (length m) a n ≡ 0
-    → (fieldRead (fieldWritten m a n x) a n false .answer ≡ 0) × (fieldRead (fieldWritten m a n x) a n false .value ≡ x % 2 ^ n)
+    → (fieldRead (fieldWritten m a n x) a n false .answer ≡ 0)
+    × (fieldRead (fieldWritten m a n x) a n false .value ≡ x % 2 ^ n)
 
 -- A write leaves every bit outside the field alone.
 abbrev pub WriteFrame : Type 0
-WriteFrame = (m : List ℕ) (a n x b : ℕ) → (b < a) ⊎ (a + n ≤ b) → bitAt (fieldWritten m a n x) b ≡ bitAt m b
+WriteFrame =
+    (m : List ℕ) (a n x b : ℕ) → (b < a) ⊎ (a + n ≤ b) → bitAt (fieldWritten m a n x) b ≡ bitAt m b
 
 -- Writing what was read changes nothing, zero or sign extended.
 abbrev pub WriteBack : Type 0
@@ -42,16 +50,21 @@ WriteBack =
 
 -- A field that would pass the end is refused with 17 and never wraps, at any address.
 abbrev pub PastEnd : Type 0
-PastEnd = (words a n : ℕ) → 0 < words → words ≤ 1048576 → 0 < n → n ≤ 32 → 16 * words < a + n → refusal words a n ≡ 17
+PastEnd =
+    (words a n : ℕ) → 0 < words → words ≤ 1048576 → 0 < n → n ≤ 32 → 16 * words < a + n
+    → refusal words a n ≡ 17
 
--- Every alignment and size is of exactly one of the cases A to G, and it is the one whose cycles and states are given.
+-- Every alignment and size is of exactly one of the cases A to G, and it is the one whose
+-- cycles and states are given.
 abbrev pub OneCase : Type 0
-OneCase = (s n : ℕ) → s < 16 → 0 < n → n ≤ 32 → (holding cases s n ≡ 1) × (isCase (caseOf s n) s n ≡ true)
+OneCase =
+    (s n : ℕ) → s < 16 → 0 < n → n ≤ 32
+    → (holding cases s n ≡ 1) × (isCase (caseOf s n) s n ≡ true)
 
 -- ---- images (demand 2)
 
--- Two different 64-bit seeds fill any memory of four or more words differently: where the images are the same, the seeds are.
--- It says nothing of memories of fewer words.
+-- Two different 64-bit seeds fill any memory of four or more words differently: where the images
+-- are the same, the seeds are. It says nothing of memories of fewer words.
 abbrev pub SeedsDiffer : Type 0
 SeedsDiffer = (x y n : ℕ) → x < 2 ^ 64 → y < 2 ^ 64 → 4 ≤ n → image n x ≡ image n y → x ≡ y
 

@@ -1,4 +1,5 @@
--- Runs of plans: the points of a listing, its parts, its numbers, and the answers of a run. The proofs are in proofs/Runs.antt. Assumes nothing.
+-- Runs of plans: the points of a listing, its parts, its numbers, and the answers of a run. The
+-- proofs are in proofs/Runs.antt. Assumes nothing.
 use mathlib.Core.Path.{_≡_}
 use mathlib.Core.Bool.{true, false, cond}
 use mathlib.Core.List.{List, [], _++_}
@@ -31,27 +32,35 @@ pub record RefusedPoint (r : Ran) : Type 0 where
   pub v : r .v ≡ false
   pub changed : r .changed ≡ 0
 
--- Every point is whole, with answer 0 and all its pixels visited, or refused. So no line of a listing has answer 1.
+-- Every point is whole, with answer 0 and all its pixels visited, or refused. So no
+-- line of a listing has answer 1.
 abbrev pub PointsAreWhole : Type 0
 PointsAreWhole =
     (words draw : ℕ) (axes : List Axis) (n : ℕ)
     → let r = ranFor words draw (experiment axes n) in
-    ((r .answer ≡ 0) × (r .visited ≡ pixels (drawingFor (operationOf draw) (settingsOf (experiment axes n))))) ⊎ RefusedPoint r
+    ((r .answer ≡ 0)
+    × (r .visited ≡ pixels (drawingFor (operationOf draw) (settingsOf (experiment axes n)))))
+    ⊎ RefusedPoint r
 
--- What is written of k points from a first one on, or as many as there are: the heading, or the line of a refused plan, stands before point 0.
+-- What is written of k points from a first one on, or as many as there are: the heading, or the
+-- line of a refused plan, stands before point 0.
 abbrev pub partOf : List ℕ → ℕ → ℕ → List ℕ
 partOf text first k =
     cond (eqb (reading text .answer) 0)
-    (cond (eqb first 0) heading [] ++ linesFrom (reading text) first (min k (count (reading text .axes) - first)))
+    (cond (eqb first 0) heading []
+    ++ linesFrom (reading text) first (min k (count (reading text .axes) - first)))
     (cond (eqb first 0) (refusedLine (reading text .answer) (reading text .line)) [])
 
 -- A part with all points is the listing.
 abbrev pub PartIsListing : Type 0
-PartIsListing = (text : List ℕ) (k : ℕ) → count (reading text .axes) ≤ k → partOf text 0 k ≡ listing text
+PartIsListing =
+    (text : List ℕ) (k : ℕ) → count (reading text .axes) ≤ k → partOf text 0 k ≡ listing text
 
 -- Two parts that follow one another are one part, the heading and a refused plan's line included.
 abbrev pub PartsAreOne : Type 0
-PartsAreOne = (text : List ℕ) (first j k : ℕ) → 0 < first + j → partOf text first j ++ partOf text (first + j) k ≡ partOf text first (j + k)
+PartsAreOne =
+    (text : List ℕ) (first j k : ℕ) → 0 < first + j
+    → partOf text first j ++ partOf text (first + j) k ≡ partOf text first (j + k)
 
 -- Each number of 64 bits has one writing: what a listing writes, a plan's reader reads back.
 abbrev pub NumbersReadBack : Type 0
@@ -64,22 +73,31 @@ OneWriting = (m n : ℕ) → m < 2 ^ 64 → n < 2 ^ 64 → decimal m ≡ decimal
 abbrev pub CountFits : Type 0
 CountFits = (text : List ℕ) → count (reading text .axes) ≤ 64 ^ 8
 
--- The answer of a run of k points: 9 first, then 10, then 24, which is given exactly where a point that is asked for isn't below the count.
+-- The answer of a run of k points: 9 first, then 10, then 24, which is given exactly where a point
+-- that is asked for isn't below the count.
 pub record AnswerOfRun (words words′ size draw axes : ℕ) (t : List ℕ) (first k : ℕ) : Type 0 where
-  pub nine : badShape words words′ draw k size ≡ true → answerOf words words′ size draw axes t first k ≡ 9
-  pub ten : badShape words words′ draw k size ≡ false → noMemory words ≡ true → answerOf words words′ size draw axes t first k ≡ 10
+  pub nine : badShape words words′ draw k size ≡ true
+      → answerOf words words′ size draw axes t first k ≡ 9
+  pub ten : badShape words words′ draw k size ≡ false → noMemory words ≡ true
+      → answerOf words words′ size draw axes t first k ≡ 10
   pub past : badShape words words′ draw k size ≡ false → noMemory words ≡ false
-      → (i : ℕ) → i < k → pointsIn axes t ≤ first + i → answerOf words words′ size draw axes t first k ≡ 24
+      → (i : ℕ) → i < k → pointsIn axes t ≤ first + i
+      → answerOf words words′ size draw axes t first k ≡ 24
   pub done : badShape words words′ draw k size ≡ false → noMemory words ≡ false
-      → ((i : ℕ) → i < k → first + i < pointsIn axes t) → answerOf words words′ size draw axes t first k ≡ 0
+      → ((i : ℕ) → i < k → first + i < pointsIn axes t)
+      → answerOf words words′ size draw axes t first k ≡ 0
 
 abbrev pub AnswersInOrder : Type 0
-AnswersInOrder = (words words′ size draw axes : ℕ) (t : List ℕ) (first k : ℕ) → AnswerOfRun words words′ size draw axes t first k
+AnswersInOrder =
+    (words words′ size draw axes : ℕ) (t : List ℕ) (first k : ℕ)
+    → AnswerOfRun words words′ size draw axes t first k
 
--- What is shown of a point is what is run: of any table, a plan's or not, the drawing takes the settings of an experiment as they are.
+-- What is shown of a point is what is run: of any table, a plan's or not, the drawing takes the
+-- settings of an experiment as they are.
 abbrev pub ShownIsRun : Type 0
 ShownIsRun =
-    (k n : ℕ) (t : List ℕ) → n < pointsIn k t → settingsOf (experiment (axesIn k t) n) ≡ asGiven (experiment (axesIn k t) n)
+    (k n : ℕ) (t : List ℕ) → n < pointsIn k t
+    → settingsOf (experiment (axesIn k t) n) ≡ asGiven (experiment (axesIn k t) n)
 
 -- every statement of this file
 pub record OfRuns : Type 0 where

@@ -1,5 +1,6 @@
--- What is proved, beyond each call's own contract: one record, with a field for each file of statements, whose fields are the statements.
--- Its one value is in proofs/Theorems.antt, so a statement without a proof is refused. Assumes nothing.
+-- What is proved, beyond each call's own contract: one record, with a field for each file of
+-- statements, whose fields are the statements. Its one value is in proofs/Theorems.antt, so a
+-- statement without a proof is refused. Assumes nothing.
 use Rattle.theorems.specs.Memory.{OfMemory}
 use Rattle.theorems.specs.Cache.{OfCache}
 use Rattle.theorems.specs.Pixels.{OfPixels}

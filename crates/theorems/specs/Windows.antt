@@ -1,4 +1,5 @@
--- Windows: what W keeps of a rectangle, and V and request, by its pixels. The proofs are in proofs/Windows.antt. Assumes nothing.
+-- Windows: what W keeps of a rectangle, and V and request, by its pixels. The proofs are in
+-- proofs/Windows.antt. Assumes nothing.
 use mathlib.Core.Path.{_≡_}
 use mathlib.Core.Bool.{Bool, true, false, cond}
 use mathlib.Core.Logic.{_↔_}
@@ -18,13 +19,15 @@ use Rattle.drawing.specs.Draw.{outcome}
 -- Whatever W but 0 keeps of a rectangle are pixels of it that lie in the window.
 abbrev pub KeptIsSeen : Type 0
 KeptIsSeen =
-    (w : ℕ) (r : Rectangle) (win : Window) (v : Bool) → (w ≡ 0 → ⊥) → (a b : ℕ) → Pixel (kept r (clipped w r win v)) a b
+    (w : ℕ) (r : Rectangle) (win : Window) (v : Bool) → (w ≡ 0 → ⊥)
+    → (a b : ℕ) → Pixel (kept r (clipped w r win v)) a b
     → Pixel r a b × Seen win a b
 
 -- W 3 keeps every pixel of the rectangle that lies in the window.
 abbrev pub SeenIsKept : Type 0
 SeenIsKept =
-    (r : Rectangle) (win : Window) (v : Bool) (a b : ℕ) → Pixel r a b → Seen win a b → Pixel (kept r (clipped 3 r win v)) a b
+    (r : Rectangle) (win : Window) (v : Bool) (a b : ℕ) → Pixel r a b → Seen win a b
+    → Pixel (kept r (clipped 3 r win v)) a b
 
 -- ---- "meet", "wholly inside" and V, by the pixels of rectangle and window
 
@@ -41,10 +44,13 @@ MeetByPixels = (r : Rectangle) (win : Window) → (meet r win ≡ true) ↔ Comm
 
 -- An array that is not empty lies wholly inside the window exactly where each of its pixels does.
 abbrev pub InsideByPixels : Type 0
-InsideByPixels = (r : Rectangle) (win : Window) → empty r ≡ false → (inside r win ≡ true) ↔ ((a b : ℕ) → Pixel r a b → Seen win a b)
+InsideByPixels =
+    (r : Rectangle) (win : Window) → empty r ≡ false
+    → (inside r win ≡ true) ↔ ((a b : ℕ) → Pixel r a b → Seen win a b)
 
--- V: W 0 leaves it as given; under W 1 it is 1 exactly where some pixel of the array lies in the window, under W 2 and 3 exactly where
--- some pixel lies outside it (so that an empty array gives 0). W 1 and 2 raise a request with it, W 0 and 3 raise none.
+-- V: W 0 leaves it as given; under W 1 it is 1 exactly where some pixel of the array lies in the
+-- window, under W 2 and 3 exactly where some pixel lies outside it (so that an empty array gives
+-- 0). W 1 and 2 raise a request with it, W 0 and 3 raise none.
 pub record ByPixels (r : Rectangle) (win : Window) (v : Bool) : Type 0 where
   pub v-0 : clipped 0 r win v .v ≡ v
   pub v-1 : (clipped 1 r win v .v ≡ true) ↔ Common r win
@@ -58,14 +64,20 @@ pub record ByPixels (r : Rectangle) (win : Window) (v : Bool) : Type 0 where
 abbrev pub VByPixels : Type 0
 VByPixels = (r : Rectangle) (win : Window) (v : Bool) → ByPixels r win v
 
--- These are V and request of a call that is not refused, where its destination is XY; a linear one keeps V and raises no request.
+-- These are V and request of a call that is not refused, where its destination is XY; a linear one
+-- keeps V and raises no request.
 abbrev pub WindowDecides : Type 0
 WindowDecides =
-    (op : Operation) (s : Settings) (place : ℕ) (v : Bool) (budget words : ℕ) → refusal op s place words ≡ 0
+    (op : Operation) (s : Settings) (place : ℕ) (v : Bool) (budget words : ℕ)
+    → refusal op s place words ≡ 0
     → (outcome op s place v budget words .v
-    ≡ cond (toXY op) (clipped (windowing (s .control)) (rectangleOf s) (windowOf (s .wstart) (s .wend)) v .v) v)
+    ≡ cond (toXY op)
+    (clipped (windowing (s .control)) (rectangleOf s) (windowOf (s .wstart) (s .wend)) v .v)
+    v)
     × (outcome op s place v budget words .request
-    ≡ cond (toXY op) (clipped (windowing (s .control)) (rectangleOf s) (windowOf (s .wstart) (s .wend)) v .request) false)
+    ≡ cond (toXY op)
+    (clipped (windowing (s .control)) (rectangleOf s) (windowOf (s .wstart) (s .wend)) v .request)
+    false)
 
 -- every statement of this file
 pub record OfWindows : Type 0 where
