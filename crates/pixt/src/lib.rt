@@ -4,13 +4,15 @@ ghost use Prim.Native.Nat.{_*_, _%_, _^_};
 ghost use lib.ListN.{length};
 ghost use Rattle.pixel.specs.Pixel.{topOf, pixelOf};
 ghost use Rattle.lone.specs.Lone.{linearPixel, xySource, xyDestination};
-ghost use Rattle.pixt.specs.Pixt.{refused, visited, drawnAt, lowBits, pixtTo, registerValue, pixtFrom};
+ghost use Rattle.pixt.specs.Pixt.{refused, visited, drawnAt};
+ghost use Rattle.pixt.specs.Pixt.{lowBits, pixtTo, registerValue, pixtFrom};
 use lone::Lone;
 use plot::Drawing;
 use plot::Source;
 use settings::Settings;
 
-// The answer, 0 or the refusal's number; pixels visited; V and the request; the register's value after a read; the settings as given.
+// The answer, 0 or the refusal's number; pixels visited; V and the request; the register's value
+// after a read; the settings as given.
 pub struct PixtResult {
     pub answer: u32,
     pub visited: u32,
@@ -28,7 +30,8 @@ pub fn pixt_to_linear(
     address: u32,
     v: bool,
 ) -> PixtResult
-    ensures { λ r. ⌜ (r ≡ pixtTo s v (linearPixel (length (now (memory .entry))) s address v)) × (now (memory .exit) ≡ drawnAt s (linearPixel (length (now (memory .entry))) s address v) (lowBits s value) (now (memory .entry))) ⌝ }
+    ensures { λ r. let m = now (memory .entry) in let at = linearPixel (length m) s address v in
+        ⌜ (r ≡ pixtTo s v at) × (now (memory .exit) ≡ drawnAt s at (lowBits s value) m) ⌝ }
 {
     let l = lone::linear_pixel(memory.len(), s, address, v);
     draw(memory, s, l, at_place(value, l.address));
@@ -37,7 +40,8 @@ pub fn pixt_to_linear(
 
 // PIXT register to memory at an XY address.
 pub fn pixt_to_xy(memory: &mut [u16], s: Settings, value: u32, xy: u32, v: bool) -> PixtResult
-    ensures { λ r. ⌜ (r ≡ pixtTo s v (xyDestination (length (now (memory .entry))) s xy v)) × (now (memory .exit) ≡ drawnAt s (xyDestination (length (now (memory .entry))) s xy v) (lowBits s value) (now (memory .entry))) ⌝ }
+    ensures { λ r. let m = now (memory .entry) in let at = xyDestination (length m) s xy v in
+        ⌜ (r ≡ pixtTo s v at) × (now (memory .exit) ≡ drawnAt s at (lowBits s value) m) ⌝ }
 {
     let l = lone::xy_destination(memory.len(), s, xy, v);
     draw(memory, s, l, at_place(value, l.address));
@@ -46,7 +50,8 @@ pub fn pixt_to_xy(memory: &mut [u16], s: Settings, value: u32, xy: u32, v: bool)
 
 // PIXT memory at a linear address to register. The memory stays as lent.
 pub fn pixt_from_linear(memory: &mut [u16], s: Settings, address: u32, v: bool) -> PixtResult
-    ensures { λ r. ⌜ (r ≡ pixtFrom s v (linearPixel (length (now (memory .entry))) s address v) (now (memory .entry))) × (now (memory .exit) ≡ now (memory .entry)) ⌝ }
+    ensures { λ r. let m = now (memory .entry) in let at = linearPixel (length m) s address v in
+        ⌜ (r ≡ pixtFrom s v at m) × (now (memory .exit) ≡ m) ⌝ }
 {
     let l = lone::linear_pixel(memory.len(), s, address, v);
     done_from(memory, s, v, l)
@@ -54,16 +59,18 @@ pub fn pixt_from_linear(memory: &mut [u16], s: Settings, address: u32, v: bool) 
 
 // PIXT memory at an XY address to register. The memory stays as lent.
 pub fn pixt_from_xy(memory: &mut [u16], s: Settings, xy: u32, v: bool) -> PixtResult
-    ensures { λ r. ⌜ (r ≡ pixtFrom s v (xySource (length (now (memory .entry))) s xy v) (now (memory .entry))) × (now (memory .exit) ≡ now (memory .entry)) ⌝ }
+    ensures { λ r. let m = now (memory .entry) in let at = xySource (length m) s xy v in
+        ⌜ (r ≡ pixtFrom s v at m) × (now (memory .exit) ≡ m) ⌝ }
 {
     let l = lone::xy_source(memory.len(), s, xy, v);
     done_from(memory, s, v, l)
 }
 
-// Draws the pixel in a colour, where the call is not refused and there is a pixel. A drawing of one pixel: the engine takes the colour
-// at the pixel's place in its word.
+// Draws the pixel in a colour, where the call is not refused and there is a pixel. A drawing of one
+// pixel: the engine takes the colour at the pixel's place in its word.
 pub fn draw(memory: &mut [u16], s: Settings, l: Lone, color: u16)
-    ensures { λ _. ⌜ now (memory .exit) ≡ drawnAt s l (pixelOf (topOf (s .psize)) color (l .address)) (now (memory .entry)) ⌝ }
+    ensures { λ _. let source = pixelOf (topOf (s .psize)) color (l .address) in
+        ⌜ now (memory .exit) ≡ drawnAt s l source (now (memory .entry)) ⌝ }
 {
     if (l.answer == 0) & l.some {
         let pp = pixel::processing(s.control);
