@@ -25,13 +25,16 @@ start out numbers = record { size = refl; rest = refl }
 
 -- both arrays reach past i
 pub inside : {i n k : ℕ} → (ltb i n && ltb i k) ≡ true → (i < n) × (i < k)
-inside {i} {n} {k} e = (ltb-true _ _ (and-eq-true-iff (ltb i n) (ltb i k) .0 e .0), ltb-true _ _ (and-eq-true-iff (ltb i n) (ltb i k) .0 e .1))
+inside {i} {n} {k} e = let both = and-eq-true-iff (ltb i n) (ltb i k) .0 e in (ltb-true _ _ (both .0), ltb-true _ _ (both .1))
 
-pub turn : (out numbers l : List ℕ) (i : ℕ) → i < length numbers → Stored out numbers l i → Stored out numbers (set l i (getD numbers i 0)) (i + 1)
-turn out numbers l i h s = record { size = length-set l i (getD numbers i 0) ∙ s .size; rest = rw add-one (rw (drop-cons numbers i 0 h) at (s .rest)) }
+pub turn : (out numbers l : List ℕ) (i : ℕ) → i < length numbers → Stored out numbers l i
+    → Stored out numbers (set l i (getD numbers i 0)) (i + 1)
+turn out numbers l i h s =
+    record { size = length-set l i (getD numbers i 0) ∙ s .size; rest = rw add-one (rw (drop-cons numbers i 0 h) at (s .rest)) }
 
 -- one of the arrays ends at i
-pub finish : (out numbers l : List ℕ) (i : ℕ) → Stored out numbers l i → (ltb i (length numbers) && ltb i (length l)) ≡ false → l ≡ sets out 0 numbers
+pub finish : (out numbers l : List ℕ) (i : ℕ) → Stored out numbers l i → (ltb i (length numbers) && ltb i (length l)) ≡ false
+    → l ≡ sets out 0 numbers
 finish out numbers l i s e = by-test (ltb i (length numbers))
     (λ t. sym (sets-out (drop i numbers) l i (ltb-false _ _ (rw t at e))) ∙ s .rest)
     (λ t. rw (drop-of-length-le numbers (ltb-false _ _ t)) at (s .rest))

@@ -1,22 +1,26 @@
-// What the calls for C share: flags as numbers, results in an output array, and the settings as thirteen numbers of an array.
+// What the calls for C share: the answer to bad arguments, flags as numbers, results in an output
+// array, and the settings as thirteen numbers of an array.
 ghost use mathlib.Core.Path.{_≡_};
 ghost use Prim.Native.Nat.{_≤_};
 ghost use lib.ListN.{getD};
 ghost use lib.Seq.{sets};
 ghost use Rattle.settings.specs.Settings.{settingsOf};
-ghost use Rattle.c_arrays.specs.Out.{bitOf};
+ghost use Rattle.c_arrays.specs.Out.{flagNumber};
 ghost use Rattle.c_arrays.specs.Settings.{badSettings};
 use settings::Settings;
 
+// The answer to bad arguments (`badCall` of the specs, BH_SHORT of the header).
+pub const BAD_CALL: u32 = 9;
+
 // A flag as a number.
-pub fn bit(flag: bool) -> u32
-    ensures { λ r. ⌜ (r ≡ bitOf flag) × (r ≤ 1) ⌝ }
+pub fn flag_number(flag: bool) -> u32
+    ensures { λ r. ⌜ (r ≡ flagNumber flag) × (r ≤ 1) ⌝ }
 {
     if flag { 1 } else { 0 }
 }
 
 // Stores numbers at the array's start, as far as it reaches.
-pub fn store(out: &mut [u32], numbers: &[u32])
+pub fn store_numbers(out: &mut [u32], numbers: &[u32])
     ensures { λ _. ⌜ now (out .exit) ≡ sets (now (out .entry)) 0 (now (numbers .entry)) ⌝ }
 {
     let mut i: usize = 0;
@@ -44,7 +48,7 @@ pub fn bad_settings(settings: &[u32]) -> bool
 }
 
 // The settings that the array's first thirteen numbers are.
-pub fn settings_of(settings: &[u32]) -> Settings
+pub fn settings_in(settings: &[u32]) -> Settings
     ensures { λ r. ⌜ r ≡ settingsOf (now (settings .entry)) ⌝ }
 {
     let numbers = [

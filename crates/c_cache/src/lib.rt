@@ -1,24 +1,18 @@
 // The instruction cache for C: a fetch on lent arrays.
 ghost use mathlib.Core.Path.{_≡_};
-ghost use mathlib.Core.Bool.{cond};
-ghost use mathlib.Core.List.{[], _∷_};
-ghost use Rattle.cache.specs.Cache.{fetchRefusal, fetched};
-ghost use Rattle.c_arrays.specs.Out.{answered, stored};
-ghost use Rattle.c_state.specs.State.{cacheOf};
-ghost use Rattle.c_cache.specs.Fetch.{kindNumber, badFetch, stays, stateAfter};
+ghost use Rattle.c_cache.specs.Fetch.{FetchCall, kindNumber, stays, stateAfter};
+use c_arrays::BAD_CALL;
+use c_state::STATE_NUMBERS;
 use cache::Fetched;
 use cache::Kind;
 
 // A fetch over the twelve numbers of a cache state; out[0] is the number of its kind.
 pub fn fetch(state: &mut [u32], address: u32, control: u16, out: &mut [u32]) -> u32
-    ensures { λ r. let s = now (state .entry) in let o = now (out .entry) in
-        let bad = badFetch s o in let call = fetched (cacheOf s) address control in
-        ⌜ (r ≡ answered bad (fetchRefusal (cacheOf s)))
-        × (now (out .exit) ≡ stored bad o (kindNumber (call .kind) ∷ []))
-        × (now (state .exit) ≡ cond bad s (stateAfter s call)) ⌝ }
+    ensures { λ r. ⌜ FetchCall (now (state .entry)) address control (now (out .entry))
+        r (now (state .exit)) (now (out .exit)) ⌝ }
 {
-    if (out.len() < 1) | (state.len() < 12) {
-        return 9;
+    if (out.len() < 1) | (state.len() < STATE_NUMBERS) {
+        return BAD_CALL;
     }
     let fetched = c_state::cache_of(state).fetch(address, control);
     let kind = fetched.kind;
@@ -61,5 +55,5 @@ fn hand_back(state: &mut [u32], fetched: Fetched)
     if is_kept(kind) {
         return;
     }
-    c_state::store(state, cache);
+    c_state::store_state(state, cache);
 }

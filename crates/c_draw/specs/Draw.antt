@@ -1,23 +1,53 @@
--- FILL and PIXBLT for C: bad arguments, and the seven results. Assumes nothing.
-use mathlib.Core.Bool.{Bool, _||_}
+-- FILL and PIXBLT for C: bad arguments, the seven results, and the promise of the call. Assumes
+-- nothing.
+use mathlib.Core.Path.{_≡_}
+use mathlib.Core.Bool.{Bool, cond, _||_}
 use mathlib.Core.List.{List, [], _∷_}
 use Prim.Native.Nat.{ℕ}
 use lib.Dec.{ltb}
+use lib.ListN.{length}
+use Rattle.settings.specs.Settings.{settingsOf}
+use Rattle.operation.specs.Operation.{operationOf}
 use Rattle.drawing.specs.declared.Outcome.{Outcome}
-use Rattle.c_arrays.specs.Out.{bitOf, short}
+use Rattle.drawing.specs.Draw.{outcome, drawn}
+use Rattle.c_arrays.specs.Out.{isSet, flagNumber, short, answered, storedOut}
 use Rattle.c_arrays.specs.Settings.{badSettings}
 
 -- the numbers 0 to 7 are the operations; no other number is one
 abbrev pub badOperation : ℕ → Bool
 badOperation n = ltb 7 n
 
--- the arguments are bad, or there is no room for the seven results
+-- how many results there are: BH_DRAW_RESULTS of the header
+abbrev pub drawResultCount : ℕ
+drawResultCount = 7
+
+-- the arguments are bad, or there is no room for the results
 abbrev pub badDraw : ℕ → List ℕ → List ℕ → Bool
-badDraw operation s out = short 7 out || (badOperation operation || badSettings s)
+badDraw operation s out = short drawResultCount out || (badOperation operation || badSettings s)
 
 -- the new place, the pixels visited by this call, V, the request, and the registers
-abbrev pub results : ℕ → ℕ → Bool → Bool → ℕ → ℕ → ℕ → List ℕ
-results place visited v request saddr daddr dydx = place ∷ visited ∷ bitOf v ∷ bitOf request ∷ saddr ∷ daddr ∷ dydx ∷ []
+abbrev pub drawResults : Outcome → List ℕ
+drawResults o =
+    o .place
+    ∷ o .visited
+    ∷ flagNumber (o .v)
+    ∷ flagNumber (o .request)
+    ∷ o .saddr
+    ∷ o .daddr
+    ∷ o .dydx
+    ∷ []
 
-abbrev pub resultsOf : Outcome → List ℕ
-resultsOf o = results (o .place) (o .visited) (o .v) (o .request) (o .saddr) (o .daddr) (o .dydx)
+-- the promise of `draw`: what it answers, and what it leaves in the memory and the output array
+pub record DrawCall (memory : List ℕ) (operation : ℕ) (settings : List ℕ) (place v budget : ℕ)
+    (out : List ℕ) (answer : ℕ) (memory′ out′ : List ℕ) : Type 0 where
+  pub answers :
+      let op = operationOf operation in
+      let call = outcome op (settingsOf settings) place (isSet v) budget (length memory) in
+      answer ≡ answered (badDraw operation settings out) (call .answer)
+  pub out-is :
+      let op = operationOf operation in
+      let call = outcome op (settingsOf settings) place (isSet v) budget (length memory) in
+      out′ ≡ storedOut (badDraw operation settings out) out (drawResults call)
+  pub memory-is :
+      let after = drawn (operationOf operation) (settingsOf settings) place budget memory in
+      memory′ ≡ cond (badDraw operation settings out) memory after

@@ -1,15 +1,16 @@
 // FILL and PIXBLT for C: `drawing::draw` on numbers and lent arrays.
 ghost use mathlib.Core.Path.{_≡_};
-ghost use mathlib.Core.Bool.{cond};
-ghost use lib.ListN.{length};
 ghost use lib.Seq.{sets};
-ghost use Rattle.operation.specs.Operation.{operationOf};
-ghost use Rattle.drawing.specs.Draw.{outcome, drawn};
-ghost use Rattle.c_arrays.specs.Out.{isSet, answered, stored};
-ghost use Rattle.settings.specs.Settings.{settingsOf};
-ghost use Rattle.c_draw.specs.Draw.{badDraw, results, resultsOf};
+ghost use Rattle.c_draw.specs.Draw.{drawResults, DrawCall};
+use c_arrays::BAD_CALL;
+use c_arrays::flag_number;
+use drawing::Outcome;
 
-// A FILL or PIXBLT call; out has the new place, the pixels visited by this call, V, the request, SADDR, DADDR and DYDX.
+// How many results there are (`drawResultCount` of the specs).
+pub const DRAW_RESULTS: usize = 7;
+
+// A FILL or PIXBLT call; out has the new place, the pixels visited by this call, V, the request,
+// SADDR, DADDR and DYDX.
 pub fn draw(
     memory: &mut [u16],
     operation: u32,
@@ -19,59 +20,37 @@ pub fn draw(
     budget: u64,
     out: &mut [u64],
 ) -> u32
-    ensures { λ r. let m = now (memory .entry) in let s = now (settings .entry) in let o = now (out .entry) in
-        let bad = badDraw operation s o in
-        let call = outcome (operationOf operation) (settingsOf s) place (isSet v) budget (length m) in
-        ⌜ (r ≡ answered bad (call .answer))
-        × (now (out .exit) ≡ stored bad o (resultsOf call))
-        × (now (memory .exit) ≡ cond bad m (drawn (operationOf operation) (settingsOf s) place budget m)) ⌝ }
+    ensures { λ r. ⌜ DrawCall (now (memory .entry)) operation (now (settings .entry)) place v budget
+        (now (out .entry)) r (now (memory .exit)) (now (out .exit)) ⌝ }
 {
-    if (out.len() < 7) | ((7 < operation) | c_arrays::bad_settings(settings)) {
-        return 9;
+    if (out.len() < DRAW_RESULTS) | ((7 < operation) | c_arrays::bad_settings(settings)) {
+        return BAD_CALL;
     }
     let op = operation::operation_of(wide(operation));
-    let s = c_arrays::settings_of(settings);
+    let s = c_arrays::settings_in(settings);
     let r = drawing::draw(memory, op, s, place, v != 0, budget);
-    hand_out(
-        out,
-        r.place,
-        r.visited,
-        r.v,
-        r.request,
-        r.saddr,
-        r.daddr,
-        r.dydx,
-    );
+    hand_out(out, r);
     r.answer
 }
 
-// Stores the seven results at the array's start.
-fn hand_out(
-    out: &mut [u64],
-    place: u64,
-    visited: u64,
-    v: bool,
-    request: bool,
-    saddr: u32,
-    daddr: u32,
-    dydx: u32,
-)
-    ensures { λ _. ⌜ now (out .exit) ≡ sets (now (out .entry)) 0 (results place visited v request saddr daddr dydx) ⌝ }
+// Stores the results at the array's start.
+fn hand_out(out: &mut [u64], r: Outcome)
+    ensures { λ _. ⌜ now (out .exit) ≡ sets (now (out .entry)) 0 (drawResults r) ⌝ }
 {
     let results = [
-        place,
-        visited,
-        wide(c_arrays::bit(v)),
-        wide(c_arrays::bit(request)),
-        wide(saddr),
-        wide(daddr),
-        wide(dydx),
+        r.place,
+        r.visited,
+        wide(flag_number(r.v)),
+        wide(flag_number(r.request)),
+        wide(r.saddr),
+        wide(r.daddr),
+        wide(r.dydx),
     ];
-    store(out, &results);
+    store_wide(out, &results);
 }
 
-// `c_arrays::store` for numbers of 64 bits.
-fn store(out: &mut [u64], numbers: &[u64])
+// `c_arrays::store_numbers` for numbers of 64 bits.
+fn store_wide(out: &mut [u64], numbers: &[u64])
     ensures { λ _. ⌜ now (out .exit) ≡ sets (now (out .entry)) 0 (now (numbers .entry)) ⌝ }
 {
     let mut i: usize = 0;

@@ -1,25 +1,18 @@
 // Fields for C: moves, memory cycles and states, on numbers and lent arrays.
 ghost use mathlib.Core.Path.{_≡_};
-ghost use mathlib.Core.Bool.{_||_};
-ghost use mathlib.Core.List.{[], _∷_};
-ghost use lib.ListN.{length};
-ghost use Rattle.field.specs.Field.{refusal, fieldRead, fieldWritten};
-ghost use Rattle.timing.specs.Cycles.{cyclesOf};
-ghost use Rattle.states.specs.MoveStates.{moveStates};
-ghost use Rattle.c_arrays.specs.Out.{isSet, short, answered, stored};
-ghost use Rattle.c_fields.specs.Mode.{badMode, modeOf};
+ghost use Rattle.c_fields.specs.Calls.{FieldReadCall, FieldWriteCall, FieldCyclesCall};
+ghost use Rattle.c_fields.specs.Calls.{MoveStatesCall};
+ghost use Rattle.c_fields.specs.Mode.{modeOf};
+use c_arrays::BAD_CALL;
 use states::Mode;
 
 // Reads a field; out[0] is the register. The memory stays as lent.
 pub fn read(memory: &mut [u16], address: u32, size: u32, signed: u32, out: &mut [u32]) -> u32
-    ensures { λ r. let m = now (memory .entry) in let o = now (out .entry) in
-        let bad = short 1 o in let call = fieldRead m address size (isSet signed) in
-        ⌜ (r ≡ answered bad (call .answer))
-        × (now (out .exit) ≡ stored bad o (call .value ∷ []))
-        × (now (memory .exit) ≡ m) ⌝ }
+    ensures { λ r. ⌜ FieldReadCall (now (memory .entry)) address size signed (now (out .entry))
+        r (now (memory .exit)) (now (out .exit)) ⌝ }
 {
     if out.len() < 1 {
-        return 9;
+        return BAD_CALL;
     }
     let r = field::read(memory, address, size, signed != 0);
     out[0] = r.value;
@@ -28,19 +21,18 @@ pub fn read(memory: &mut [u16], address: u32, size: u32, signed: u32, out: &mut 
 
 // Writes the low bits of a value to a field.
 pub fn write(memory: &mut [u16], address: u32, size: u32, value: u32) -> u32
-    ensures { λ r. let m = now (memory .entry) in
-        ⌜ (r ≡ refusal (length m) address size) × (now (memory .exit) ≡ fieldWritten m address size value) ⌝ }
+    ensures { λ r. ⌜ FieldWriteCall (now (memory .entry)) address size value
+        r (now (memory .exit)) ⌝ }
 {
     field::write(memory, address, size, value)
 }
 
 // Memory cycles of a field move; out[0] is those of a read, out[1] those of a write.
 pub fn cycles(address: u32, size: u32, out: &mut [u32]) -> u32
-    ensures { λ r. let o = now (out .entry) in let bad = short 2 o in let call = cyclesOf address size in
-        ⌜ (r ≡ answered bad (call .answer)) × (now (out .exit) ≡ stored bad o (call .read ∷ call .write ∷ [])) ⌝ }
+    ensures { λ r. ⌜ FieldCyclesCall address size (now (out .entry)) r (now (out .exit)) ⌝ }
 {
     if out.len() < 2 {
-        return 9;
+        return BAD_CALL;
     }
     let r = timing::field_cycles(address, size);
     out[0] = r.read;
@@ -57,12 +49,11 @@ pub fn move_states(
     cached: u32,
     out: &mut [u32],
 ) -> u32
-    ensures { λ r. let o = now (out .entry) in let bad = short 1 o || badMode mode in
-        let call = moveStates address size (modeOf mode) (isSet signed) (isSet cached) in
-        ⌜ (r ≡ answered bad (call .answer)) × (now (out .exit) ≡ stored bad o (call .states ∷ [])) ⌝ }
+    ensures { λ r. ⌜ MoveStatesCall address size mode signed cached (now (out .entry))
+        r (now (out .exit)) ⌝ }
 {
     if (out.len() < 1) | (2 < mode) {
-        return 9;
+        return BAD_CALL;
     }
     let r = states::move_states(address, size, mode_of(mode), signed != 0, cached != 0);
     out[0] = r.states;

@@ -2,9 +2,13 @@
 ghost use mathlib.Core.Path.{_≡_};
 ghost use lib.ListN.{getD};
 ghost use lib.Seq.{sets};
-ghost use Rattle.c_state.specs.State.{segmentOf, placeOf, cacheOf, flagsNumber, numbersOf};
+ghost use Rattle.c_state.specs.State.{segmentOf, orderEntry, cacheOf, flagsNumber, numbersOf};
+use c_arrays::flag_number;
 use cache::Cache;
 use segments::Segment;
+
+// How many numbers a state is (`stateNumbers` of the specs).
+pub const STATE_NUMBERS: usize = 12;
 
 // The state that the array's first twelve numbers are.
 pub fn cache_of(state: &[u32]) -> Cache
@@ -17,16 +21,16 @@ pub fn cache_of(state: &[u32]) -> Cache
         segment_at(state, 3, 7),
     ];
     let order = [
-        place_at(state, 8),
-        place_at(state, 9),
-        place_at(state, 10),
-        place_at(state, 11),
+        order_entry_at(state, 8),
+        order_entry_at(state, 9),
+        order_entry_at(state, 10),
+        order_entry_at(state, 11),
     ];
     Cache { segments, order }
 }
 
 // Stores a state as the array's first twelve numbers.
-pub fn store(state: &mut [u32], cache: Cache)
+pub fn store_state(state: &mut [u32], cache: Cache)
     ensures { λ _. ⌜ now (state .exit) ≡ sets (now (state .entry)) 0 (numbersOf cache) ⌝ }
 {
     let segments = cache.segments;
@@ -49,12 +53,13 @@ pub fn store(state: &mut [u32], cache: Cache)
         wide(order[2]),
         wide(order[3]),
     ];
-    c_arrays::store(state, &numbers);
+    c_arrays::store_numbers(state, &numbers);
 }
 
 // The segment whose start address and flags stand at two places of the array.
 fn segment_at(state: &[u32], start: usize, flags: usize) -> Segment
-    ensures { λ r. ⌜ r ≡ segmentOf (getD (now (state .entry)) start 0) (getD (now (state .entry)) flags 0) ⌝ }
+    ensures { λ r. let s = now (state .entry) in
+        ⌜ r ≡ segmentOf (getD s start 0) (getD s flags 0) ⌝ }
 {
     segment(
         c_arrays::number_at(state, start),
@@ -80,14 +85,14 @@ fn segment(start: u32, f: u32) -> Segment
     }
 }
 
-fn place_at(state: &[u32], at: usize) -> u8
-    ensures { λ r. ⌜ r ≡ placeOf (getD (now (state .entry)) at 0) ⌝ }
+fn order_entry_at(state: &[u32], at: usize) -> u8
+    ensures { λ r. ⌜ r ≡ orderEntry (getD (now (state .entry)) at 0) ⌝ }
 {
-    place(c_arrays::number_at(state, at))
+    order_entry(c_arrays::number_at(state, at))
 }
 
-fn place(x: u32) -> u8
-    ensures { λ r. ⌜ r ≡ placeOf x ⌝ }
+fn order_entry(x: u32) -> u8
+    ensures { λ r. ⌜ r ≡ orderEntry x ⌝ }
 {
     if x < 255 { x as u8 } else { 255 }
 }
@@ -96,14 +101,14 @@ fn flags_number(s: Segment) -> u32
     ensures { λ r. ⌜ r ≡ flagsNumber (s .present) ⌝ }
 {
     let p = s.present;
-    c_arrays::bit(p[0])
-        + 2 * c_arrays::bit(p[1])
-        + 4 * c_arrays::bit(p[2])
-        + 8 * c_arrays::bit(p[3])
-        + 16 * c_arrays::bit(p[4])
-        + 32 * c_arrays::bit(p[5])
-        + 64 * c_arrays::bit(p[6])
-        + 128 * c_arrays::bit(p[7])
+    flag_number(p[0])
+        + 2 * flag_number(p[1])
+        + 4 * flag_number(p[2])
+        + 8 * flag_number(p[3])
+        + 16 * flag_number(p[4])
+        + 32 * flag_number(p[5])
+        + 64 * flag_number(p[6])
+        + 128 * flag_number(p[7])
 }
 
 fn wide(x: u8) -> u32

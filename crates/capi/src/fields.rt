@@ -1,13 +1,6 @@
 // Fields: moves, memory cycles and states.
-ghost use mathlib.Core.Path.{_≡_};
-ghost use mathlib.Core.Bool.{_||_};
-ghost use mathlib.Core.List.{[], _∷_};
-ghost use lib.ListN.{length};
-ghost use Rattle.field.specs.Field.{refusal, fieldRead, fieldWritten};
-ghost use Rattle.timing.specs.Cycles.{cyclesOf};
-ghost use Rattle.states.specs.MoveStates.{moveStates};
-ghost use Rattle.c_arrays.specs.Out.{isSet, short, answered, stored};
-ghost use Rattle.c_fields.specs.Mode.{badMode, modeOf};
+ghost use Rattle.c_fields.specs.Calls.{FieldReadCall, FieldWriteCall, FieldCyclesCall};
+ghost use Rattle.c_fields.specs.Calls.{MoveStatesCall};
 
 // Reads a field; out[0] is the register. The memory stays as lent.
 #[no_mangle]
@@ -18,11 +11,8 @@ pub extern "C" fn bh_field_read(
     signed: u32,
     out: &mut [u32],
 ) -> u32
-    ensures { λ r. let m = now (memory .entry) in let o = now (out .entry) in
-        let bad = short 1 o in let call = fieldRead m address size (isSet signed) in
-        ⌜ (r ≡ answered bad (call .answer))
-        × (now (out .exit) ≡ stored bad o (call .value ∷ []))
-        × (now (memory .exit) ≡ m) ⌝ }
+    ensures { λ r. ⌜ FieldReadCall (now (memory .entry)) address size signed (now (out .entry))
+        r (now (memory .exit)) (now (out .exit)) ⌝ }
 {
     c_fields::read(memory, address, size, signed, out)
 }
@@ -30,8 +20,8 @@ pub extern "C" fn bh_field_read(
 // Writes the low bits of a value to a field.
 #[no_mangle]
 pub extern "C" fn bh_field_write(memory: &mut [u16], address: u32, size: u32, value: u32) -> u32
-    ensures { λ r. let m = now (memory .entry) in
-        ⌜ (r ≡ refusal (length m) address size) × (now (memory .exit) ≡ fieldWritten m address size value) ⌝ }
+    ensures { λ r. ⌜ FieldWriteCall (now (memory .entry)) address size value
+        r (now (memory .exit)) ⌝ }
 {
     c_fields::write(memory, address, size, value)
 }
@@ -39,8 +29,7 @@ pub extern "C" fn bh_field_write(memory: &mut [u16], address: u32, size: u32, va
 // Memory cycles of a field move; out[0] is those of a read, out[1] those of a write.
 #[no_mangle]
 pub extern "C" fn bh_field_cycles(address: u32, size: u32, out: &mut [u32]) -> u32
-    ensures { λ r. let o = now (out .entry) in let bad = short 2 o in let call = cyclesOf address size in
-        ⌜ (r ≡ answered bad (call .answer)) × (now (out .exit) ≡ stored bad o (call .read ∷ call .write ∷ [])) ⌝ }
+    ensures { λ r. ⌜ FieldCyclesCall address size (now (out .entry)) r (now (out .exit)) ⌝ }
 {
     c_fields::cycles(address, size, out)
 }
@@ -55,9 +44,8 @@ pub extern "C" fn bh_move_states(
     cached: u32,
     out: &mut [u32],
 ) -> u32
-    ensures { λ r. let o = now (out .entry) in let bad = short 1 o || badMode mode in
-        let call = moveStates address size (modeOf mode) (isSet signed) (isSet cached) in
-        ⌜ (r ≡ answered bad (call .answer)) × (now (out .exit) ≡ stored bad o (call .states ∷ [])) ⌝ }
+    ensures { λ r. ⌜ MoveStatesCall address size mode signed cached (now (out .entry))
+        r (now (out .exit)) ⌝ }
 {
     c_fields::move_states(address, size, mode, signed, cached, out)
 }

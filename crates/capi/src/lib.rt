@@ -1,6 +1,7 @@
-// The calls for C: functions on numbers and lent arrays, each the function of the crate that it names. A slice is passed as a pointer
-// and a length. No function has a requires: an output array that is too short, a mode or an operation that is none, or a number that is
-// too large for its place is answered by 9.
+// The calls for C: functions on numbers and lent arrays, each the function of the crate that it
+// names, with that function's promise. A slice is passed as a pointer and a length. No function has
+// a requires: an output array that is too short, a mode or an operation that is none, or a number
+// that is too large for its place is answered by 9.
 mod drawings;
 mod fields;
 mod images;

@@ -1,13 +1,7 @@
 // Single pixels: PIXT and DRAV.
-ghost use mathlib.Core.Path.{_≡_};
-ghost use mathlib.Core.Bool.{cond};
-ghost use lib.ListN.{length};
-ghost use Rattle.lone.specs.Lone.{placeOf, linearPixel, xySource, xyDestination};
-ghost use Rattle.pixt.specs.Pixt.{drawnAt, lowBits, pixtTo, pixtFrom};
-ghost use Rattle.drav.specs.Drav.{colorAt, dravOf};
-ghost use Rattle.c_arrays.specs.Out.{isSet, answered, stored};
-ghost use Rattle.settings.specs.Settings.{settingsOf};
-ghost use Rattle.c_lone.specs.Pixel.{badPixel, pixtResults, dravResults};
+ghost use Rattle.c_pixt_to.specs.Calls.{PixtToLinearCall, PixtToXYCall};
+ghost use Rattle.c_pixt_from.specs.Calls.{PixtFromLinearCall, PixtFromXYCall};
+ghost use Rattle.c_drav.specs.Calls.{DravCall};
 
 // PIXT register to memory at a linear address.
 #[no_mangle]
@@ -19,12 +13,8 @@ pub extern "C" fn bh_pixt_to_linear(
     v: u32,
     out: &mut [u32],
 ) -> u32
-    ensures { λ r. let m = now (memory .entry) in let s = settingsOf (now (settings .entry)) in let o = now (out .entry) in
-        let bad = badPixel (now (settings .entry)) o in let at = linearPixel (length m) s address (isSet v) in
-        let call = pixtTo s (isSet v) at in
-        ⌜ (r ≡ answered bad (call .answer))
-        × (now (out .exit) ≡ stored bad o (pixtResults call))
-        × (now (memory .exit) ≡ cond bad m (drawnAt s at (lowBits s value) m)) ⌝ }
+    ensures { λ r. ⌜ PixtToLinearCall (now (memory .entry)) (now (settings .entry)) value address v
+        (now (out .entry)) r (now (memory .exit)) (now (out .exit)) ⌝ }
 {
     c_pixt_to::pixt_to_linear(memory, settings, value, address, v, out)
 }
@@ -39,12 +29,8 @@ pub extern "C" fn bh_pixt_to_xy(
     v: u32,
     out: &mut [u32],
 ) -> u32
-    ensures { λ r. let m = now (memory .entry) in let s = settingsOf (now (settings .entry)) in let o = now (out .entry) in
-        let bad = badPixel (now (settings .entry)) o in let at = xyDestination (length m) s xy (isSet v) in
-        let call = pixtTo s (isSet v) at in
-        ⌜ (r ≡ answered bad (call .answer))
-        × (now (out .exit) ≡ stored bad o (pixtResults call))
-        × (now (memory .exit) ≡ cond bad m (drawnAt s at (lowBits s value) m)) ⌝ }
+    ensures { λ r. ⌜ PixtToXYCall (now (memory .entry)) (now (settings .entry)) value xy v
+        (now (out .entry)) r (now (memory .exit)) (now (out .exit)) ⌝ }
 {
     c_pixt_to::pixt_to_xy(memory, settings, value, xy, v, out)
 }
@@ -58,12 +44,8 @@ pub extern "C" fn bh_pixt_from_linear(
     v: u32,
     out: &mut [u32],
 ) -> u32
-    ensures { λ r. let m = now (memory .entry) in let s = settingsOf (now (settings .entry)) in let o = now (out .entry) in
-        let bad = badPixel (now (settings .entry)) o in let at = linearPixel (length m) s address (isSet v) in
-        let call = pixtFrom s (isSet v) at m in
-        ⌜ (r ≡ answered bad (call .answer))
-        × (now (out .exit) ≡ stored bad o (pixtResults call))
-        × (now (memory .exit) ≡ m) ⌝ }
+    ensures { λ r. ⌜ PixtFromLinearCall (now (memory .entry)) (now (settings .entry)) address v
+        (now (out .entry)) r (now (memory .exit)) (now (out .exit)) ⌝ }
 {
     c_pixt_from::pixt_from_linear(memory, settings, address, v, out)
 }
@@ -77,12 +59,8 @@ pub extern "C" fn bh_pixt_from_xy(
     v: u32,
     out: &mut [u32],
 ) -> u32
-    ensures { λ r. let m = now (memory .entry) in let s = settingsOf (now (settings .entry)) in let o = now (out .entry) in
-        let bad = badPixel (now (settings .entry)) o in let at = xySource (length m) s xy (isSet v) in
-        let call = pixtFrom s (isSet v) at m in
-        ⌜ (r ≡ answered bad (call .answer))
-        × (now (out .exit) ≡ stored bad o (pixtResults call))
-        × (now (memory .exit) ≡ m) ⌝ }
+    ensures { λ r. ⌜ PixtFromXYCall (now (memory .entry)) (now (settings .entry)) xy v
+        (now (out .entry)) r (now (memory .exit)) (now (out .exit)) ⌝ }
 {
     c_pixt_from::pixt_from_xy(memory, settings, xy, v, out)
 }
@@ -97,12 +75,8 @@ pub extern "C" fn bh_drav(
     v: u32,
     out: &mut [u32],
 ) -> u32
-    ensures { λ r. let m = now (memory .entry) in let s = settingsOf (now (settings .entry)) in let o = now (out .entry) in
-        let bad = badPixel (now (settings .entry)) o in let at = xyDestination (length m) s point (isSet v) in
-        let call = dravOf s (isSet v) point step at in
-        ⌜ (r ≡ answered bad (call .answer))
-        × (now (out .exit) ≡ stored bad o (dravResults call))
-        × (now (memory .exit) ≡ cond bad m (drawnAt s at (colorAt s (placeOf s point)) m)) ⌝ }
+    ensures { λ r. ⌜ DravCall (now (memory .entry)) (now (settings .entry)) step point v
+        (now (out .entry)) r (now (memory .exit)) (now (out .exit)) ⌝ }
 {
     c_drav::drav(memory, settings, step, point, v, out)
 }

@@ -1,22 +1,27 @@
--- `draw` meets its contract.
+-- `draw` meets its contract. Assumes nothing.
 use borrow.Author.Needs.{needs}
 use Rattle.c_draw.proofs.draw.Statement.{statement}
 use Rattle.c_draw.proofs.draw.Tie as tie
 
 returns : tie.Need-returns
-returns c = let e = rw (c .before .bad-settings .ensures) at (c .if1 .taken) in (rw e, rw e, rw e)
+returns c =
+    let e = rw (c .before .bad-settings .ensures) at (c .if1 .taken) in
+    record { answers = rw e; out-is = rw e; memory-is = rw e }
 
 returns-2 : tie.Need-returns-2
 returns-2 c =
     let h = c .before .before in
-    let d = h .before .before .before .before in
-    let s = d .before .before .settings-of .ensures in
-    let o = d .before .before .before .operation-of .ensures in
-    let w = d .before .before .before .before .wide .ensures in
-    let i = d .before .before .before .before .before in
+    let n = h .before .before in
+    let d = n .before .before in
+    let t = d .before .before in
+    let o = t .before in
+    let i = o .before .before in
+    let s = t .settings-in .ensures in
+    let p = o .operation-of .ensures in
+    let w = o .before .wide .ensures in
     let g = rw (i .before .bad-settings .ensures) at (i .if1 .left) in
     let e = d .draw .ensures in
-    (rw (e .0, s, o, w, g), rw (h .hand-out .ensures, e .0, s, o, w, g), rw (e .1, s, o, w, g))
+    record { answers = rw (e .0, s, p, w, g); out-is = rw (h .hand-out .ensures, e .0, s, p, w, g); memory-is = rw (e .1, s, p, w, g) }
 
 pub draw-spec : {M : Type 1} → statement M
 draw-spec =

@@ -1,4 +1,4 @@
--- `mode_of` meets its contract: the tests of the match, in its order.
+-- `mode_of` meets its contract: the tests of the match, in its order. Assumes nothing.
 use borrow.Author.Tests.{ne-eqb}
 use Rattle.c_fields.proofs.mode_of.Statement.{statement}
 use Rattle.c_fields.proofs.mode_of.Tie as tie

@@ -1,4 +1,4 @@
--- `bad_pixel` meets its contract.
+-- `bad_pixel` meets its contract. Assumes nothing.
 use borrow.Author.Needs.{needs}
 use Rattle.c_lone.proofs.bad_pixel.Statement.{statement}
 use Rattle.c_lone.proofs.bad_pixel.Tie as tie

@@ -1,13 +1,10 @@
--- `hand_out` meets its contract.
+-- `hand_out` meets its contract. Assumes nothing.
 use mathlib.Core.List.{[], _∷_}
 use native.Mathlib.Omega.{arith}
 use lib.Seq.{lt-length-sets}
 use borrow.Author.Needs.{needs}
 use Rattle.c_plan.proofs.hand_out.Statement.{statement}
 use Rattle.c_plan.proofs.hand_out.Tie as tie
-
-slice-write-out : tie.Need-slice-write-out
-slice-write-out c = search needs
 
 slice-write-out-2 : tie.Need-slice-write-out-2
 slice-write-out-2 c = lt-length-sets (c .args .out .now) 0 (_ ∷ []) (omega arith)
@@ -18,12 +15,6 @@ slice-write-out-3 c = lt-length-sets (c .args .out .now) 0 (_ ∷ _ ∷ []) (ome
 slice-write-out-4 : tie.Need-slice-write-out-4
 slice-write-out-4 c = lt-length-sets (c .args .out .now) 0 (_ ∷ _ ∷ _ ∷ []) (omega arith)
 
-slice-write-out-5 : tie.Need-slice-write-out-5
-slice-write-out-5 c = search needs
-
-same-length : tie.Need-same-length
-same-length c = search needs
-
 returns : tie.Need-returns
 returns c = search needs
 
@@ -31,10 +22,10 @@ pub hand-out-spec : {M : Type 1} → statement M
 hand-out-spec =
     tie.close
     (tie.spec
-    slice-write-out
+    (λ c. search needs)
     slice-write-out-2
     slice-write-out-3
     slice-write-out-4
-    slice-write-out-5
-    same-length
+    (λ c. search needs)
+    (λ c. search needs)
     returns)

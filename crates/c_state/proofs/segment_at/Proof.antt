@@ -1,4 +1,4 @@
--- `segment_at` meets its contract.
+-- `segment_at` meets its contract. Assumes nothing.
 use borrow.Author.Needs.{needs}
 use Rattle.c_state.proofs.segment_at.Statement.{statement}
 use Rattle.c_state.proofs.segment_at.Tie as tie
