@@ -1,9 +1,11 @@
 /* The C interface of Buckethare, a proved model of the drawing side of the TMS34010.
 
-   Every function is proved to meet its contract in crates/capi/src, for all arguments. No
-   function allocates, keeps anything between calls, or touches memory beyond the arrays that it is
-   passed. An array is passed as a pointer and its length in elements. The pointer may not be null,
-   also where the length is 0, and the arrays of one call may not overlap.
+   Every function is proved to meet its contract in crates/capi/src, for all arguments. The contract
+   names a promise that stands in the specs of the crate that the function calls: FieldReadCall for
+   bh_field_read, and so on. No function allocates, keeps anything between calls, or touches memory
+   beyond the arrays that it is passed. An array is passed as a pointer and its length in elements.
+   The pointer may not be null, also where the length is 0, and the arrays of one call may not
+   overlap.
 
    The answer of a call, but for the two bh_put_ calls, is 0, 1 where a drawing stopped at its
    budget, or the number of the refusal that applies:
@@ -17,14 +19,14 @@
          lone XY pixel, SPTCH by a source of pixels
      14  W (CONTROL bits 6-7) isn't 0, the destination is XY, and the window has a negative
          coordinate or a start beyond its end
-     15  the place is above the drawing's number of pixels
+     15  the place is above the drawing's number of pixels, after clipping
      16  there are pixels to draw or read, and an XY start after clipping has a negative X or Y, or
          the linear address at which a pixel array or a lone pixel starts isn't a multiple of PSIZE
      17  some bit of the field, the lone pixel that would be drawn or read, or some pixel or source
          bit that would be visited over the whole drawing has an address of 16 x words or more
      18  the field size is outside 1 to 32
      19  the numbers are no cache state
-     20  a line of the plan has a wrong form
+     20  a line of the plan has a wrong form, or is missing, or the text is above 65,536 bytes
      21  a name of the plan is unknown or came before
      22  a value of the plan is too large for its name, or stands twice on its axis
      23  the plan has more than 8 axes, or more than 64 values on one
@@ -95,7 +97,8 @@ uint32_t bh_move_states(uint32_t address, uint32_t size, uint32_t mode, uint32_t
 
 /* The settings are 13 numbers, in this order: SADDR, SPTCH, DADDR, DPTCH, OFFSET, WSTART, WEND,
    DYDX, COLOR0, COLOR1, CONTROL, PSIZE, PMASK. The last three are at most 65535. An XY address, a
-   point, a step, WSTART and WEND have X in the low and Y in the high 16 bits. */
+   point, a step, WSTART and WEND have X in the low and Y in the high 16 bits, DYDX has an array's
+   columns in the low and its rows in the high ones. Further elements are not read. */
 #define BH_SETTINGS 13
 
 /* The results of PIXT and DRAV are four numbers: pixels visited (0 or 1), V (0 or 1), window
@@ -103,8 +106,8 @@ uint32_t bh_move_states(uint32_t address, uint32_t size, uint32_t mode, uint32_t
 #define BH_PIXEL_RESULTS 4
 
 /* What the five calls below share. v is V before the call: 0, or anything else for 1. A refused
-   call hands it back. The settings stay. Each answers 9 where there are less than 13 settings, one
-   of the last three is above 65535, or out has less than 4 elements. */
+   call hands it back as 0 or 1. The settings stay. Each answers 9 where there are less than 13
+   settings, one of the last three is above 65535, or out has less than 4 elements. */
 
 /* PIXT register to memory: draws the low PSIZE bits of value at a linear address, or at an XY
    address under the window. out[3] is 0. Answers 0, 9, 10, 11, 12, 16 or 17; at an XY address also
@@ -125,9 +128,10 @@ uint32_t bh_pixt_from_xy(uint16_t *memory, size_t words, const uint32_t *setting
                          size_t settings_length, uint32_t xy, uint32_t v, uint32_t *out,
                          size_t out_length);
 
-/* DRAV: draws the pixel at the point, under the window, from COLOR1 at the pixel's place in its
-   word. out[3] is the point with the step's X and Y added, each modulo 2^16, drawn or not; where
-   the call is refused, the point as it was. Answers 0, 9, 10, 11, 12, 13, 14, 16 or 17. */
+/* DRAV: draws the pixel at the point, under the window, from the low 16 bits of COLOR1 at the
+   pixel's place in its word. out[3] is the point with the step's X and Y added, each modulo 2^16,
+   drawn or not; where the call is refused, the point as it was. Answers 0, 9, 10, 11, 12, 13, 14,
+   16 or 17. */
 uint32_t bh_drav(uint16_t *memory, size_t words, const uint32_t *settings, size_t settings_length,
                  uint32_t step, uint32_t point, uint32_t v, uint32_t *out, size_t out_length);
 
@@ -143,7 +147,11 @@ uint32_t bh_drav(uint16_t *memory, size_t words, const uint32_t *settings, size_
 #define BH_PIXBLT_B_XY 7
 
 /* The results of a drawing are seven numbers: the new place, the pixels visited by this call, V (0
-   or 1), window violation request (0 or 1), SADDR, DADDR and DYDX. */
+   or 1), window violation request (0 or 1), SADDR, DADDR and DYDX. Once a drawing that has pixels
+   is done, DADDR, and SADDR of a PIXBLT, are the linear address of the row after the array's last
+   one. With an XY destination and W 1 nothing is drawn, and where the array meets the window DADDR
+   and DYDX are the part of it that lies inside. In all other cases the registers are those of the
+   settings. */
 #define BH_DRAW_RESULTS 7
 
 /* FILL or PIXBLT, one of the eight operations above, with the settings of PIXT and DRAV. place is
@@ -162,7 +170,9 @@ uint32_t bh_draw(uint16_t *memory, size_t words, uint32_t operation, const uint3
 
 /* A cache state is 12 numbers: the start addresses of segments 0 to 3 (bits 9-31 of the bit
    address, a 23-bit number); the present flags of segments 0 to 3, flag j as bit j; and the order,
-   the least recently used segment first. */
+   the least recently used segment first. Numbers are none, and get 19, where the order doesn't have
+   each of 0 to 3 once, a start address is 2^23 or more, or two segments with a flag have the same
+   one. */
 #define BH_CACHE_NUMBERS 12
 
 /* A fresh cache, as the initial value of an array. */
@@ -226,17 +236,17 @@ uint32_t bh_experiment(const uint64_t *table, size_t table_length, uint64_t axes
 #define BH_LINE 80
 
 /* Runs `count` points from `first` on, each over the image of its SEED, and puts their lines of the
-   listing at the start of out; written[0] is how many bytes these are. The image and the memory are
+   listing at the start of out; bytes[0] is how many bytes these are. The image and the memory are
    those of the last point then; with count 0 they stay. What they hold before doesn't matter.
    Answers 0; 9 (draw is above 7, the image and the memory aren't of one size up to 32,768 words,
-   out has less than BH_LINE x count bytes, or written is empty); 10 where they are empty; or 24
-   where a point that is asked for isn't below the number of points. With count 0 none is asked for.
-   A table that doesn't hold the axes has no points. With 10 and 24 written[0] is 0, and nothing
-   else changes. */
+   out has less than BH_LINE x count bytes, or bytes is empty); 10 where they are empty; or 24 where
+   a point that is asked for isn't below the number of points. With count 0 none is asked for. A
+   table that doesn't hold the axes has no points. With 10 and 24 bytes[0] is 0, and nothing else
+   changes. */
 uint32_t bh_lines(const uint64_t *table, size_t table_length, uint64_t axes, uint64_t draw,
                   uint64_t first, uint64_t count, uint16_t *image, size_t image_words,
                   uint16_t *memory, size_t memory_words, uint8_t *out, size_t out_length,
-                  uint64_t *written, size_t written_length);
+                  uint64_t *bytes, size_t bytes_length);
 
 /* Put the listing's heading, or the line of a refused plan (the refusal's number and its line), at
    an index of out. They answer the index after the line; where it doesn't fit they answer the
