@@ -3,11 +3,14 @@ ghost use mathlib.Core.Path.{_≡_};
 ghost use Rattle.run.specs.Lines.{badShape, endsPast};
 use run::LINE;
 
-// Are the memories not of one size up to 32,768 words, is the drawing none, or is there no room for the longest lines?
+// Are the memories not of one size up to MOST_WORDS, is the drawing none, or is there no room for the longest lines?
 pub fn bad_shape(words: usize, others: usize, draw: u64, count: u64, size: usize) -> bool
     ensures { λ r. ⌜ r ≡ badShape words others draw count size ⌝ }
 {
-    (32768 < words) | (words != others) | (7 < draw) | (((size / LINE) as u64) < count)
+    (names::MOST_WORDS < words)
+        | (words != others)
+        | (names::DRAWING_COUNT <= draw)
+        | (((size / LINE) as u64) < count)
 }
 
 // Is some point that is asked for not below the number of points?

@@ -9,7 +9,7 @@ use lib.Dec.{ltb, leb}
 use lib.ListN.{length, take, length-drop}
 use lib.Seq.{length-take-le}
 use Rattle.text.specs.Text.{fieldsOf}
-use Rattle.points.specs.Axes.{limit}
+use Rattle.names.specs.Names.{limit}
 use Rattle.values.specs.declared.Block.{Block}
 use Rattle.tabs.specs.Fields.{fieldValue}
 use Rattle.line.specs.Line.{nameOf}

@@ -6,7 +6,8 @@ use lib.Dec.{eqb, ltb, leb}
 use lib.ListN.{length, take, drop, set}
 use Rattle.lists.specs.Search.{any, anyPair}
 use Rattle.text.specs.Text.{same}
-use Rattle.points.specs.Axes.{Axis, limit}
+use Rattle.names.specs.Names.{nameCount, limit}
+use Rattle.points.specs.Axes.{Axis}
 use Rattle.tabs.specs.Fields.{fieldValue, noNumber}
 use Rattle.line.specs.Words.{axisWord}
 use Rattle.line.specs.Line.{nameOf}
@@ -28,7 +29,7 @@ badForm (word ∷ name ∷ []) = true
 
 -- 21: the name is unknown or came before
 abbrev pub badName : (ℕ → Bool) → ℕ → Bool
-badName came name = leb 14 name || came name
+badName came name = leb nameCount name || came name
 
 -- 22: a value is too large for its name, or stands twice on its axis
 abbrev pub badValues : ℕ → List ℕ → Bool

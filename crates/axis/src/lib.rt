@@ -6,7 +6,6 @@ ghost use lib.Dec.{eqb, leb};
 ghost use lib.ListN.{length, getD, take, drop};
 ghost use Rattle.lists.specs.Search.{any, anyPair};
 ghost use Rattle.text.specs.Text.{fieldsOf};
-ghost use Rattle.points.specs.Axes.{limit};
 ghost use Rattle.tabs.specs.Fields.{noNumber};
 ghost use Rattle.values.specs.Block.{valuesFrom, BlockAt};
 ghost use Rattle.axis.specs.Axis.{valuesOf, badForm, badName, axisLine, storedAt};
@@ -21,12 +20,12 @@ pub struct AxisLine {
 }
 
 // An `axis` line after so many axes, where these names came before. Its first 64 values are read once.
-pub fn axis_of(line: &[u8], seen: [bool; 14], axes: u64) -> AxisLine
+pub fn axis_of(line: &[u8], seen: [bool; names::COUNT], axes: u64) -> AxisLine
     ensures { λ r. ⌜ r ≡ axisLine (λ name. getD seen name false) axes (fieldsOf (now (line .entry))) ⌝ }
 {
     let values = tabs::third_at(line);
     let name = line::name_of(line);
-    let most = greatest(name);
+    let most = names::greatest(name);
     let b = values::block_at(line, values, most);
     let behind = b.behind;
     let count = b.count as u64;
@@ -84,14 +83,14 @@ fn bad_form(line: &[u8], bad: bool) -> bool
 fn bad_name(name: u64, came: bool) -> bool
     ensures { λ r. ⌜ r ≡ badName (λ _. came) name ⌝ }
 {
-    (14 <= name) | came
+    (names::COUNT as u64 <= name) | came
 }
 
 // Did the name come?
-fn came(seen: [bool; 14], name: u64) -> bool
+fn came(seen: [bool; names::COUNT], name: u64) -> bool
     ensures { λ r. ⌜ r ≡ getD seen name false ⌝ }
 {
-    if 14 <= name {
+    if names::COUNT as u64 <= name {
         return false;
     }
     seen[name as usize]
@@ -132,17 +131,4 @@ fn axis_line(refusal: u32, name: u64, count: u64) -> AxisLine
         name,
         count,
     }
-}
-
-// The greatest value of a name: one less than its limit.
-fn greatest(name: u64) -> u64
-    ensures { λ r. ⌜ r + 1 ≡ limit name ⌝ }
-{
-    if name < 10 {
-        return 4294967295;
-    }
-    if name < 13 {
-        return 65535;
-    }
-    18446744073709551615
 }

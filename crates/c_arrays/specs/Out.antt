@@ -18,10 +18,6 @@ flagNumber flag = cond flag 1 0
 abbrev pub short : ℕ → List ℕ → Bool
 short n out = ltb (length out) n
 
--- a number is too large for a place of 16 bits
-abbrev pub tooLarge : ℕ → Bool
-tooLarge x = ltb 65535 x
-
 -- the answer to bad arguments: no refusal of the scope has this number
 abbrev pub badCall : ℕ
 badCall = 9

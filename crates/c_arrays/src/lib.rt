@@ -6,7 +6,7 @@ ghost use lib.ListN.{getD};
 ghost use lib.Seq.{sets};
 ghost use Rattle.settings.specs.Settings.{settingsOf};
 ghost use Rattle.c_arrays.specs.Out.{flagNumber};
-ghost use Rattle.c_arrays.specs.Settings.{badSettings};
+ghost use Rattle.c_arrays.specs.Settings.{tooLargeAt, badSettings};
 use settings::Settings;
 
 // The answer to bad arguments (`badCall` of the specs, BH_SHORT of the header).
@@ -41,10 +41,17 @@ pub fn number_at(numbers: &[u32], at: usize) -> u32
 pub fn bad_settings(settings: &[u32]) -> bool
     ensures { λ r. ⌜ r ≡ badSettings (now (settings .entry)) ⌝ }
 {
-    let control = number_at(settings, 10);
-    let psize = number_at(settings, 11);
-    let pmask = number_at(settings, 12);
-    (settings.len() < 13) | ((65535 < control) | ((65535 < psize) | (65535 < pmask)))
+    let control = too_large(settings, names::CONTROL);
+    let psize = too_large(settings, names::PSIZE);
+    let pmask = too_large(settings, names::PMASK);
+    (settings.len() < names::SETTINGS) | (control | (psize | pmask))
+}
+
+// Is the number at a name's place too large for the name?
+fn too_large(settings: &[u32], number: usize) -> bool
+    ensures { λ r. ⌜ r ≡ tooLargeAt (now (settings .entry)) number ⌝ }
+{
+    names::greatest(number as u64) < wide_at(settings, number)
 }
 
 // The settings that the array's first thirteen numbers are.
@@ -52,19 +59,19 @@ pub fn settings_in(settings: &[u32]) -> Settings
     ensures { λ r. ⌜ r ≡ settingsOf (now (settings .entry)) ⌝ }
 {
     let numbers = [
-        wide_at(settings, 0),
-        wide_at(settings, 1),
-        wide_at(settings, 2),
-        wide_at(settings, 3),
-        wide_at(settings, 4),
-        wide_at(settings, 5),
-        wide_at(settings, 6),
-        wide_at(settings, 7),
-        wide_at(settings, 8),
-        wide_at(settings, 9),
-        wide_at(settings, 10),
-        wide_at(settings, 11),
-        wide_at(settings, 12),
+        wide_at(settings, names::SADDR),
+        wide_at(settings, names::SPTCH),
+        wide_at(settings, names::DADDR),
+        wide_at(settings, names::DPTCH),
+        wide_at(settings, names::OFFSET),
+        wide_at(settings, names::WSTART),
+        wide_at(settings, names::WEND),
+        wide_at(settings, names::DYDX),
+        wide_at(settings, names::COLOR0),
+        wide_at(settings, names::COLOR1),
+        wide_at(settings, names::CONTROL),
+        wide_at(settings, names::PSIZE),
+        wide_at(settings, names::PMASK),
     ];
     settings::settings_of(&numbers)
 }

@@ -4,8 +4,9 @@ use mathlib.Core.Path.{_≡_}
 use mathlib.Core.Bool.{Bool, cond, _||_}
 use mathlib.Core.List.{List, [], _∷_}
 use Prim.Native.Nat.{ℕ}
-use lib.Dec.{ltb}
+use lib.Dec.{leb}
 use lib.ListN.{length}
+use Rattle.names.specs.Drawings.{drawingCount}
 use Rattle.settings.specs.Settings.{settingsOf}
 use Rattle.operation.specs.Operation.{operationOf}
 use Rattle.drawing.specs.declared.Outcome.{Outcome}
@@ -13,9 +14,9 @@ use Rattle.drawing.specs.Draw.{outcome, drawn}
 use Rattle.c_arrays.specs.Out.{isSet, flagNumber, short, answered, storedOut}
 use Rattle.c_arrays.specs.Settings.{badSettings}
 
--- the numbers 0 to 7 are the operations; no other number is one
+-- the eight drawings have the numbers from 0 on; no other number is one's
 abbrev pub badOperation : ℕ → Bool
-badOperation n = ltb 7 n
+badOperation n = leb drawingCount n
 
 -- how many results there are: BH_DRAW_RESULTS of the header
 abbrev pub drawResultCount : ℕ

@@ -23,7 +23,9 @@ pub fn draw(
     ensures { λ r. ⌜ DrawCall (now (memory .entry)) operation (now (settings .entry)) place v budget
         (now (out .entry)) r (now (memory .exit)) (now (out .exit)) ⌝ }
 {
-    if (out.len() < DRAW_RESULTS) | ((7 < operation) | c_arrays::bad_settings(settings)) {
+    if (out.len() < DRAW_RESULTS)
+        | ((names::DRAWING_COUNT as u32 <= operation) | c_arrays::bad_settings(settings))
+    {
         return BAD_CALL;
     }
     let op = operation::operation_of(wide(operation));

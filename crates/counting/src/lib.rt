@@ -1,23 +1,9 @@
 // How many points the axes of a lent table give (`Rattle.points.specs.Table`). No public function has a requires.
 ghost use mathlib.Core.Path.{_≡_};
-ghost use Prim.Native.Nat.{_+_};
 ghost use lib.Dec.{leb};
 ghost use Rattle.lists.specs.Search.{any};
-ghost use Rattle.points.specs.Axes.{limit};
+ghost use Rattle.names.specs.Names.{limit};
 ghost use Rattle.points.specs.Table.{holdsAxis, pointsIn};
-
-// The largest value of a name.
-fn most(name: u64) -> u64
-    ensures { λ r. ⌜ r + 1 ≡ limit name ⌝ }
-{
-    if name < 10 {
-        return 4294967295;
-    }
-    if name < 13 {
-        return 65535;
-    }
-    18446744073709551615
-}
 
 // Is a value too large for the name? The limits are powers of two, so that one test of the values joined bit by bit says it of all.
 fn too_large(name: u64, values: &[u64]) -> bool
@@ -29,7 +15,7 @@ fn too_large(name: u64, values: &[u64]) -> bool
         all |= values[i];
         i += 1;
     }
-    most(name) < all
+    names::greatest(name) < all
 }
 
 // Does the table start with an axis: a name, and 1 to 64 values, none of which is too large for it?
@@ -42,7 +28,7 @@ fn holds_axis(table: &[u64]) -> bool
     }
     let name = table[0];
     let values = table[1];
-    if !((name < 14) & (1 <= values) & (values <= 64) & (values <= len - 2)) {
+    if !((name < names::COUNT as u64) & (1 <= values) & (values <= 64) & (values <= len - 2)) {
         return false;
     }
     let end = 2 + values as usize;

@@ -6,11 +6,10 @@ use Prim.Native.Nat.{ℕ, suc, _-_}
 use native.Mathlib.Omega.{arith}
 use borrow.Author.Tests.{ne-eqb}
 use lib.ListN.{length, getD}
-use Rattle.lists.specs.Search.{first}
-use Rattle.text.specs.Text.{same}
-use Rattle.line.specs.Words.{memoryWord, drawWord, drawNames}
+use Rattle.names.specs.Drawings.{drawingCount}
+use Rattle.line.specs.Words.{memoryWord, drawWord}
 use Rattle.tabs.specs.Fields.{fieldValue}
-use Rattle.line.specs.Line.{sizeOf, memoryOf, drawOf}
+use Rattle.line.specs.Line.{sizeOf, drawingNumber, memoryOf, drawOf}
 use Rattle.line.specs.Tests.{isPair}
 
 -- A line of two fields
@@ -22,7 +21,7 @@ memoryOf-isPair (word ∷ []) = refl
 memoryOf-isPair (word ∷ size ∷ []) = refl
 memoryOf-isPair (word ∷ size ∷ f ∷ fs) = rw (ne-eqb (suc (suc (suc (length fs)))) 2 (λ e. omega arith))
 
-pub drawOf-isPair : (fields : List (List ℕ)) → drawOf fields ≡ cond (isPair drawWord fields) (first (same (getD fields 1 [])) drawNames) 8
+pub drawOf-isPair : (fields : List (List ℕ)) → drawOf fields ≡ cond (isPair drawWord fields) (drawingNumber (getD fields 1 [])) drawingCount
 unfolding drawOf
 drawOf-isPair [] = refl
 drawOf-isPair (word ∷ []) = refl

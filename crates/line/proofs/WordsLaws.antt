@@ -1,20 +1,25 @@
--- Laws of `specs/Words.antt`: a list of words is the fields of one text. No contract cites this file. Assumes nothing.
-use mathlib.Core.Path.{_≡_, refl}
-use mathlib.Core.List.{List, [], _∷_, _++_}
+-- Names and drawings are the fields of one text each: a word's number is found there. No contract cites this file. Assumes nothing.
+use mathlib.Core.Path.{_≡_, refl, ap, _∙_}
+use mathlib.Core.List.{List}
 use Prim.Native.Nat.{ℕ}
-use Rattle.text.specs.Text.{before, parts, fieldsOf}
-use Rattle.line.specs.Words.{names, drawNames}
+use Rattle.lists.specs.Search.{first}
+use Rattle.ascii.specs.Ascii.{joined}
+use Rattle.names.specs.Names.{names}
+use Rattle.names.specs.Drawings.{drawings}
+use Rattle.text.specs.Text.{before, parts, fieldsOf, same}
+use Rattle.line.specs.Line.{nameNumber, drawingNumber}
 
--- words with a tab between any two
-abbrev pub joined : List (List ℕ) → List ℕ
-joined [] = []
-joined (w ∷ []) = w
-joined (w ∷ v ∷ ws) = w ++ (9 ∷ joined (v ∷ ws))
-
-pub names-joined : fieldsOf (joined names) ≡ names
+names-joined : fieldsOf (joined names) ≡ names
 unfolding before parts
 names-joined = refl
 
-pub drawNames-joined : fieldsOf (joined drawNames) ≡ drawNames
+drawings-joined : fieldsOf (joined drawings) ≡ drawings
 unfolding before parts
-drawNames-joined = refl
+drawings-joined = refl
+
+module _ (word list : List ℕ) where
+  pub nameNumber-joined : list ≡ joined names → first (same word) (fieldsOf list) ≡ nameNumber word
+  nameNumber-joined e = ap (λ (l : List ℕ). first (same word) (fieldsOf l)) e ∙ ap (first (same word)) names-joined
+
+  pub drawingNumber-joined : list ≡ joined drawings → first (same word) (fieldsOf list) ≡ drawingNumber word
+  drawingNumber-joined e = ap (λ (l : List ℕ). first (same word) (fieldsOf l)) e ∙ ap (first (same word)) drawings-joined

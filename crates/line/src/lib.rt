@@ -14,34 +14,30 @@ pub fn memory_of(line: &[u8]) -> u64
     size_of(tabs::field_value(tabs::second(line)))
 }
 
-// The number of a `draw` line's drawing: 8 for any other line.
+// The number of a `draw` line's drawing: DRAWING_COUNT for any other line.
 pub fn draw_of(line: &[u8]) -> u64
     ensures { λ r. ⌜ r ≡ drawOf (fieldsOf (now (line .entry))) ⌝ }
 {
     if !is_pair(line, b"draw") {
-        return 8;
+        return names::DRAWING_COUNT;
     }
-    tabs::index_of(
-        b"FILL L\tFILL XY\tPIXBLT L,L\tPIXBLT L,XY\tPIXBLT XY,L\tPIXBLT XY,XY\tPIXBLT B,L\tPIXBLT B,XY",
-        tabs::second(line),
-    )
+    let list = names::drawings();
+    tabs::index_of(&list, tabs::second(line))
 }
 
-// The number of an `axis` line's name: 14 where it is unknown.
+// The number of an `axis` line's name: COUNT where it is unknown.
 pub fn name_of(line: &[u8]) -> u64
     ensures { λ r. ⌜ r ≡ nameOf (fieldsOf (now (line .entry))) ⌝ }
 {
-    tabs::index_of(
-        b"SADDR\tSPTCH\tDADDR\tDPTCH\tOFFSET\tWSTART\tWEND\tDYDX\tCOLOR0\tCOLOR1\tCONTROL\tPSIZE\tPMASK\tSEED",
-        tabs::second(line),
-    )
+    let list = names::list();
+    tabs::index_of(&list, tabs::second(line))
 }
 
-// A memory's size: 0 for a number above 32768.
+// A memory's size: 0 for a number above MOST_WORDS.
 fn size_of(n: u64) -> u64
     ensures { λ r. ⌜ r ≡ sizeOf n ⌝ }
 {
-    if n <= 32768 {
+    if n <= names::MOST_WORDS as u64 {
         return n;
     }
     0

@@ -8,6 +8,8 @@ use borrow.Author.Tests.{eqb-false, ltb-true, leb-true}
 use lib.Dec.{eqb, ltb, leb}
 use lib.ListN.{length}
 use Rattle.text.specs.Text.{linesOf, fieldsOf, same}
+use Rattle.names.specs.Drawings.{drawingCount}
+use Rattle.names.specs.Limits.{planWords}
 use Rattle.points.specs.Axes.{Axis}
 use Rattle.points.specs.OneToOne.{Sound}
 use Rattle.line.specs.Words.{memoryWord}
@@ -21,21 +23,21 @@ use Rattle.plan.proofs.SoundLaws.{reading-sound}
 -- a memory of 1 to 32768 words, one of the eight drawings, and sound axes
 pub record Accepted (r : Reading) : Type 0 where
   pub some-words : 1 ≤ r .words
-  pub words-le : r .words ≤ 32768
-  pub draw-lt : r .draw < 8
+  pub words-le : r .words ≤ planWords
+  pub draw-lt : r .draw < drawingCount
   pub sound : Sound (r .axes)
 
 -- the memory line's words
 abbrev Few : ℕ → Type 0
-Few n = n ≤ 32768
+Few n = n ≤ planWords
 
-memoryOf-le : (fields : List (List ℕ)) → memoryOf fields ≤ 32768
+memoryOf-le : (fields : List (List ℕ)) → memoryOf fields ≤ planWords
 unfolding memoryOf
 memoryOf-le [] = omega arith
 memoryOf-le (word ∷ []) = omega arith
 memoryOf-le (word ∷ size ∷ []) =
     cond-both Few (same word memoryWord) _ _
-    (λ e. cond-both Few (leb (fieldValue size) 32768) _ _ (λ l. leb-true _ _ l) (λ l. omega arith)) (λ e. omega arith)
+    (λ e. cond-both Few (leb (fieldValue size) planWords) _ _ (λ l. leb-true _ _ l) (λ l. omega arith)) (λ e. omega arith)
 memoryOf-le (word ∷ size ∷ f ∷ fs) = omega arith
 
 -- what holds of a reading that is accepted
@@ -57,7 +59,7 @@ axisLines-keeps words draw axes (l ∷ m ∷ ls) =
 
 -- the draw line keeps the words, and has one of the eight drawings
 abbrev Draws : ℕ → Reading → Type 0
-Draws words r = (r .words ≡ words) × (r .draw < 8)
+Draws words r = (r .words ≡ words) × (r .draw < drawingCount)
 
 drawLine-draws : (words : ℕ) (ls : List Line) → Where (Draws words) (drawLine words ls)
 unfolding drawLine
@@ -65,11 +67,11 @@ drawLine-draws words [] = λ e. absurd (omega arith)
 drawLine-draws words (l ∷ []) = λ e. absurd (omega arith)
 drawLine-draws words (l ∷ m ∷ ls) =
     let draw = drawOf (fieldsOf (l .bytes)) in
-    cond-both (Where (Draws words)) (ltb draw 8) _ _
+    cond-both (Where (Draws words)) (ltb draw drawingCount) _ _
     (λ q e. let (w, d) = axisLines-keeps words draw [] (m ∷ ls) e in (w, rw d (ltb-true _ _ q))) (λ q e. absurd (omega arith))
 
 abbrev Ranged : Reading → Type 0
-Ranged r = (1 ≤ r .words) × (r .words ≤ 32768) × (r .draw < 8)
+Ranged r = (1 ≤ r .words) × (r .words ≤ planWords) × (r .draw < drawingCount)
 
 memoryLine-ranged : (ls : List Line) → Where Ranged (memoryLine ls)
 unfolding memoryLine

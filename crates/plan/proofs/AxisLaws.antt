@@ -9,13 +9,14 @@ use lib.Dec.{eqb, leb}
 use lib.ListN.{length}
 use Rattle.lists.specs.Search.{any, anyPair}
 use Rattle.lists.proofs.TestLaws.{or-eq-false, cond-zero}
-use Rattle.points.specs.Axes.{Axis, limit}
+use Rattle.names.specs.Names.{nameCount, limit}
+use Rattle.points.specs.Axes.{Axis}
 use Rattle.line.specs.Line.{nameOf}
 use Rattle.axis.specs.Axis.{valuesOf, badForm, badName, badValues, tooMany, refusal, axisRefusal}
 
 -- the line's name is known and new, and its values are few, all different and below the name's limit
 pub record Good (came : ℕ → Bool) (axes : ℕ) (fields : List (List ℕ)) : Type 0 where
-  pub known : nameOf fields < 14
+  pub known : nameOf fields < nameCount
   pub new : came (nameOf fields) ≡ false
   pub below : any (leb (limit (nameOf fields))) (valuesOf fields) ≡ false
   pub once : anyPair eqb (valuesOf fields) ≡ false

@@ -13,6 +13,7 @@ use lib.Seq.{getD-set-same, getD-set-other, take-suc-set}
 use Rattle.lists.specs.Search.{any}
 use Rattle.lists.proofs.TestLaws.{or-eq-false}
 use Rattle.lists.proofs.SearchLaws.{any-snoc}
+use Rattle.names.specs.Names.{nameCount}
 use Rattle.points.specs.Axes.{Axis, count}
 use Rattle.points.specs.OneToOne.{badLength}
 use Rattle.text.specs.Text.{fieldsOf}
@@ -35,7 +36,7 @@ getD-none (suc n) (suc i) = getD-none n i
 pub holds-none : (text : List ℕ) → Holds text [] nothingRead
 unfolding any count
 holds-none text =
-    record { sound = sound-none; size = refl; seen-is = getD-none 14; axes-is = refl; points-is = refl; places = refl; starts-are = refl }
+    record { sound = sound-none; size = refl; seen-is = getD-none nameCount; axes-is = refl; points-is = refl; places = refl; starts-are = refl }
 
 -- with another plan of no axes
 pub holds-going : {text : List ℕ} {s : State} (words draw : ℕ) → Holds text [] s → Holds text [] (going s (acceptedPlan words draw 0 1))

@@ -4,6 +4,8 @@ use mathlib.Core.List.{List, [], _∷_, _++_}
 use Prim.Native.Nat.{ℕ, suc}
 use lib.Dec.{eqb, ltb}
 use lib.ListN.{length}
+use Rattle.ascii.specs.Ascii.{hash}
+use Rattle.names.specs.Drawings.{drawingCount}
 use Rattle.text.specs.Text.{linesOf, fieldsOf}
 use Rattle.points.specs.Axes.{Axis}
 use Rattle.line.specs.Line.{memoryOf, drawOf}
@@ -17,7 +19,7 @@ pub record Line : Type 0 where
 -- empty lines and lines starting with # are skipped
 abbrev pub skipped : List ℕ → Bool
 skipped [] = true
-skipped (c ∷ cs) = eqb c 35
+skipped (c ∷ cs) = eqb c hash
 
 -- the lines that are not skipped, and last what follows the last line
 unfoldable pub kept : ℕ → List (List ℕ) → List Line
@@ -53,7 +55,7 @@ unfoldable pub drawLine : ℕ → List Line → Reading
 drawLine words [] = refusedAt 20 1
 drawLine words (rest ∷ []) = refusedAt 20 (rest .number)
 drawLine words (l ∷ m ∷ ls) =
-    cond (ltb (drawOf (fieldsOf (l .bytes))) 8)
+    cond (ltb (drawOf (fieldsOf (l .bytes))) drawingCount)
     (axisLines words (drawOf (fieldsOf (l .bytes))) [] (m ∷ ls))
     (refusedAt 20 (l .number))
 

@@ -6,6 +6,8 @@ use Prim.Native.Nat.{ℕ, _+_, _*_, _<_, _≤_}
 use lib.Dec.{eqb, ltb}
 use lib.ListN.{length, getD, set, take, replicate}
 use Rattle.lists.specs.Search.{any}
+use Rattle.names.specs.Names.{nameCount}
+use Rattle.names.specs.Drawings.{drawingCount}
 use Rattle.points.specs.Axes.{Axis, count}
 use Rattle.points.specs.OneToOne.{Sound}
 use Rattle.text.specs.Text.{fieldsOf}
@@ -21,7 +23,7 @@ use Rattle.plan.specs.Cursor.{lineAt, linesFrom, readingOf}
 -- Before the first line; with another plan, and a line wanted or not
 
 abbrev pub nothingRead : State
-nothingRead = record { wanted = true; plan = acceptedPlan 0 8 0 1; seen = replicate 14 false; starts = replicate 8 0 }
+nothingRead = record { wanted = true; plan = acceptedPlan 0 drawingCount 0 1; seen = replicate nameCount false; starts = replicate 8 0 }
 
 abbrev pub going : State → Plan → State
 going s plan = record { wanted = true; plan = plan; seen = s .seen; starts = s .starts }
@@ -32,13 +34,13 @@ shut s plan = record { wanted = false; plan = plan; seen = s .seen; starts = s .
 -- A memory line of these words, a draw line of this drawing, and the end of the text
 
 abbrev pub afterMemory : State → ℕ → ℕ → State
-afterMemory s words line = cond (eqb words 0) (shut s (refusedPlan 20 line)) (going s (acceptedPlan words 8 0 1))
+afterMemory s words line = cond (eqb words 0) (shut s (refusedPlan 20 line)) (going s (acceptedPlan words drawingCount 0 1))
 
 abbrev pub afterDraw : State → ℕ → ℕ → State
-afterDraw s draw line = cond (ltb draw 8) (going s (acceptedPlan (s .plan .words) draw 0 1)) (shut s (refusedPlan 20 line))
+afterDraw s draw line = cond (ltb draw drawingCount) (going s (acceptedPlan (s .plan .words) draw 0 1)) (shut s (refusedPlan 20 line))
 
 abbrev pub afterEnd : State → Bool → ℕ → State
-afterEnd s left line = cond (left || eqb (s .plan .draw) 8) (shut s (refusedPlan 20 line)) (shut s (s .plan))
+afterEnd s left line = cond (left || eqb (s .plan .draw) drawingCount) (shut s (refusedPlan 20 line)) (shut s (s .plan))
 
 -- An axis line of these fields: its refusal, or an axis more, whose line starts at a place
 
@@ -77,7 +79,7 @@ pub record StartsAt (text : List ℕ) (starts : List ℕ) (n : ℕ) : Type 0 whe
 -- What is held is that of some axes
 pub record Holds (text : List ℕ) (axes : List Axis) (s : State) : Type 0 where
   pub sound : Sound axes
-  pub size : length (s .seen) ≡ 14
+  pub size : length (s .seen) ≡ nameCount
   pub seen-is : (name : ℕ) → getD (s .seen) name false ≡ any (λ (a : Axis). eqb (a .name) name) axes
   pub axes-is : s .plan .axes ≡ length axes
   pub points-is : s .plan .points ≡ count axes
@@ -93,10 +95,10 @@ pub record AxesRead (text : List ℕ) (s : State) (lines : List Line) : Type 0 w
 -- The lines before a place are read, and another one is wanted there: the memory line, the draw line or an axis line
 pub record Reads (text : List ℕ) (s : State) (at number : ℕ) : Type 0 where
   pub accepted : s .plan ≡ acceptedPlan (s .plan .words) (s .plan .draw) (s .plan .axes) (s .plan .points)
-  pub memory : s .plan .words ≡ 0 → (s .plan .draw ≡ 8) × (readingOf text ≡ memoryLine (linesFrom text at number))
-  pub draw : (s .plan .words ≡ 0 → ⊥) → s .plan .draw ≡ 8 → readingOf text ≡ drawLine (s .plan .words) (linesFrom text at number)
-  pub none : s .plan .draw ≡ 8 → Holds text [] s
-  pub axes : (s .plan .words ≡ 0 → ⊥) → (s .plan .draw ≡ 8 → ⊥) → AxesRead text s (linesFrom text at number)
+  pub memory : s .plan .words ≡ 0 → (s .plan .draw ≡ drawingCount) × (readingOf text ≡ memoryLine (linesFrom text at number))
+  pub draw : (s .plan .words ≡ 0 → ⊥) → s .plan .draw ≡ drawingCount → readingOf text ≡ drawLine (s .plan .words) (linesFrom text at number)
+  pub none : s .plan .draw ≡ drawingCount → Holds text [] s
+  pub axes : (s .plan .words ≡ 0 → ⊥) → (s .plan .draw ≡ drawingCount → ⊥) → AxesRead text s (linesFrom text at number)
 
 -- All lines that decide are read: the plan of the text, and of an accepted one where its axis lines start
 pub record Read (text : List ℕ) (s : State) : Type 0 where

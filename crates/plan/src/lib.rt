@@ -5,6 +5,8 @@ ghost use lib.ListN.{length};
 ghost use Rattle.text.specs.Text.{fieldsOf};
 ghost use Rattle.axis.specs.Axis.{storedAt};
 ghost use Rattle.plan.specs.Table.{refusedPlan, acceptedPlan, planOf, stored, tableAfter};
+ghost use Rattle.names.specs.Names.{nameCount};
+ghost use Rattle.plan.specs.Reading.{textLimit};
 ghost use Rattle.plan.specs.Cursor.{lineAt, skippedAt, Place, Next, readingOf};
 ghost use Rattle.plan.specs.State.{nothingRead, shut, going, afterMemory, afterDraw, afterAxis, afterEnd, heldAfter, entryOf, StartsAt, Reads, After, Read};
 
@@ -19,6 +21,9 @@ pub struct Plan {
     pub points: u64,
 }
 
+// No text of a plan has more bytes.
+pub const TEXT: usize = 65536;
+
 // The plan of a text. The axes of an accepted one are stored at the table's start; a refused one leaves the table as lent. 9 where that
 // has fewer than 528 elements.
 pub fn read(text: &[u8], table: &mut [u64]) -> Plan
@@ -27,7 +32,7 @@ pub fn read(text: &[u8], table: &mut [u64]) -> Plan
     if table.len() < 528 {
         return refused(9, 0);
     }
-    if 65536 < text.len() {
+    if TEXT < text.len() {
         return refused(20, 1);
     }
     let s = read_lines(text);
@@ -55,17 +60,17 @@ struct Reader<'a> {
 }
 
 // What is held of the lines read so far: is another one wanted, the plan up to here, which names came, and where each axis line starts.
-// Before the memory line the plan has no words, before the draw line 8 for the drawing.
+// Before the memory line the plan has no words, before the draw line DRAWING_COUNT for the drawing.
 struct State {
     wanted: bool,
     plan: Plan,
-    seen: [bool; 14],
+    seen: [bool; names::COUNT],
     starts: [usize; 8],
 }
 
 // The first pass: one reader is carried through its text, and each line that is not skipped is taken in.
 fn read_lines(text: &[u8]) -> State
-    requires { ⌜ length (now text) ≤ 65536 ⌝ }
+    requires { ⌜ length (now text) ≤ textLimit ⌝ }
     ensures { λ s. ⌜ Read (now (text .entry)) s ⌝ }
 {
     let mut r = reader_of(text);
@@ -169,18 +174,18 @@ fn store_axis(line: &[u8], table: &mut [u64], at: usize) -> usize
 fn nothing_read() -> State
     ensures { λ r. ⌜ r ≡ nothingRead ⌝ }
 {
-    let plan = accepted(0, 8, 0, 1);
+    let plan = accepted(0, names::DRAWING_COUNT, 0, 1);
     State {
         wanted: true,
         plan,
-        seen: [false; 14],
+        seen: [false; names::COUNT],
         starts: [0; 8],
     }
 }
 
 // The next line that is not skipped, or what follows the last line, is taken in.
 fn taken(text: &[u8], c: Cursor, s: State) -> State
-    requires { ⌜ (length (now text) ≤ 65536) × (Next (now text) (c .at) (c .line) c) × Reads (now text) s (c .at) (c .line) ⌝ }
+    requires { ⌜ (length (now text) ≤ textLimit) × (Next (now text) (c .at) (c .line) c) × Reads (now text) s (c .at) (c .line) ⌝ }
     ensures { λ r. ⌜ After (now (text .entry)) c r ⌝ }
 {
     let at = c.at;
@@ -194,7 +199,7 @@ fn taken(text: &[u8], c: Cursor, s: State) -> State
     if plan.words == 0 {
         return with_memory(s, line::memory_of(line), c.line);
     }
-    if plan.draw == 8 {
+    if plan.draw == names::DRAWING_COUNT {
         return with_draw(s, line::draw_of(line), c.line);
     }
     with_axis(s, line, c)
@@ -207,7 +212,7 @@ fn with_memory(s: State, words: u64, line: u64) -> State
     if words == 0 {
         return shut(s, refused(20, line));
     }
-    going(s, accepted(words, 8, 0, 1))
+    going(s, accepted(words, names::DRAWING_COUNT, 0, 1))
 }
 
 // The draw line: 20 where it has none of the eight drawings.
@@ -215,7 +220,7 @@ fn with_draw(s: State, draw: u64, line: u64) -> State
     ensures { λ r. ⌜ r ≡ afterDraw s draw line ⌝ }
 {
     let plan = s.plan;
-    if 8 <= draw {
+    if names::DRAWING_COUNT <= draw {
         return shut(s, refused(20, line));
     }
     going(s, accepted(plan.words, draw, 0, 1))
@@ -237,7 +242,7 @@ fn with_axis(s: State, line: &[u8], c: Cursor) -> State
 
 // With an axis more, of a name and so many values, whose line starts at a place.
 fn with_values(s: State, name: u64, count: u64, at: usize) -> State
-    requires { ⌜ (name < 14) × (count ≤ 64) × (s .plan .axes < 8) × (s .plan .points ≤ 64 ^ s .plan .axes) ⌝ }
+    requires { ⌜ (name < nameCount) × (count ≤ 64) × (s .plan .axes < 8) × (s .plan .points ≤ 64 ^ s .plan .axes) ⌝ }
     ensures { λ r. ⌜ r ≡ heldAfter s name count at ⌝ }
 {
     let mut seen = s.seen;
@@ -259,7 +264,7 @@ fn at_end(s: State, left: bool, line: u64) -> State
     ensures { λ r. ⌜ r ≡ afterEnd s left line ⌝ }
 {
     let plan = s.plan;
-    if left | (plan.draw == 8) {
+    if left | (plan.draw == names::DRAWING_COUNT) {
         return shut(s, refused(20, line));
     }
     shut(s, plan)

@@ -10,7 +10,8 @@ use lib.ListN.{length, getD, set, drop, length-set}
 use lib.Seq.{set-append-left}
 use Rattle.lists.specs.Search.{any}
 use Rattle.lists.proofs.TestLaws.{or-eq-false}
-use Rattle.points.specs.Axes.{Axis, defaults, count}
+use Rattle.names.specs.Names.{defaults}
+use Rattle.points.specs.Axes.{Axis, count}
 use Rattle.points.specs.Points.{indices, assigned, experiment, refusal}
 use Rattle.points.specs.Table.{axesIn, laterIn, holds, pointsIn, refusalIn, answerFor, outAfter, withDefaults}
 use Rattle.points.specs.OneToOne.{unknown, tooLarge}

@@ -1,17 +1,19 @@
 -- Laws of an experiment's values (`specs/Points.antt`). No contract cites this file. Assumes nothing.
 use mathlib.Core.Path.{_≡_, refl, _∙_}
-use mathlib.Core.Bool.{Bool, true, false, cond}
+use mathlib.Core.Bool.{false}
 use mathlib.Core.List.{List, [], _∷_}
-use Prim.Native.Nat.{ℕ, zero, suc, _^_, _<_}
+use Prim.Native.Nat.{ℕ, zero, suc, _<_}
 use native.Mathlib.Omega.{arith}
 use borrow.Author.Tests.{leb-false, eqb-false, lt-leb}
-use lib.Dec.{ltb, leb}
+use lib.Dec.{leb}
 use lib.ListN.{length, getD, set, length-set}
 use lib.Seq.{getD-set-same, getD-set-other}
 use Rattle.lists.specs.Search.{any}
 use Rattle.lists.proofs.TestLaws.{or-eq-false}
 use Rattle.lists.proofs.SearchLaws.{any-getD}
-use Rattle.points.specs.Axes.{Axis, defaults, limit}
+use Rattle.names.specs.Names.{defaults, limit}
+use Rattle.names.proofs.NamesLaws.{limit-pos, default-lt-limit}
+use Rattle.points.specs.Axes.{Axis}
 use Rattle.points.specs.Points.{indices, assigned, experiment}
 use Rattle.points.specs.OneToOne.{isNamed, tooLarge, Sound}
 use Rattle.points.proofs.SoundLaws.{First, first-sound, later-sound}
@@ -65,19 +67,6 @@ experiment-named axes n s d j h = assigned-named axes n defaults s refl d j h
 
 -- Every value is below the limit of its name
 
-limit-gt : (i : ℕ) → 16 < limit i
-unfolding limit
-limit-gt i = go (ltb i 10) (ltb i 13)
-  where
-    go : (b c : Bool) → 16 < cond b (2 ^ 32) (cond c (2 ^ 16) (2 ^ 64))
-    go true c = omega arith
-    go false true = omega arith
-    go false false = omega arith
-
-default-lt-limit : (i : ℕ) → getD defaults i 0 < limit i
-unfolding any
-default-lt-limit i = omega (arith, limit-gt i, leb-false 17 (getD defaults i 0) (any-getD (leb 17) 0 defaults i refl refl))
-
 -- what holds of an index and what is stored there, and of the others as they are
 set-each : (P : ℕ → ℕ → Type 0) (vs : List ℕ) (i v : ℕ) → P i v → ((k : ℕ) → P k (getD vs k 0)) → (k : ℕ) → P k (getD (set vs i v) k 0)
 set-each P [] i v h f k = f k
@@ -88,7 +77,7 @@ set-each P (x ∷ vs) (suc i) v h f (suc k) = set-each (λ j. P (suc j)) vs i v 
 
 value-lt-limit : (a : Axis) (i : ℕ) → tooLarge a ≡ false → getD (a .values) i 0 < limit (a .name)
 value-lt-limit a i e =
-    leb-false (limit (a .name)) _ (any-getD (leb (limit (a .name))) 0 (a .values) i (lt-leb (limit (a .name)) 0 (omega (arith, limit-gt (a .name)))) e)
+    leb-false (limit (a .name)) _ (any-getD (leb (limit (a .name))) 0 (a .values) i (lt-leb (limit (a .name)) 0 (limit-pos (a .name))) e)
 
 assigned-lt-limit : (axes : List Axis) (is vs : List ℕ) → any tooLarge axes ≡ false → ((i : ℕ) → getD vs i 0 < limit i)
     → (i : ℕ) → getD (assigned axes is vs) i 0 < limit i

@@ -11,7 +11,8 @@ use lib.Seq.{getD-set-same, getD-set-other, ext-getD}
 use Rattle.lists.specs.Search.{any, anyPair, first}
 use Rattle.lists.proofs.TestLaws.{or-eq-false, eqb-comm}
 use Rattle.lists.proofs.SearchLaws.{any-first, getD-first}
-use Rattle.points.specs.Axes.{Axis, defaults, count, limit}
+use Rattle.names.specs.Names.{defaults, limit}
+use Rattle.points.specs.Axes.{Axis, count}
 use Rattle.points.specs.Points.{indices, assigned, experiment}
 use Rattle.points.specs.OneToOne.{isNamed, unknown, Sound, chosenFrom, Of, OneToOne, PointsOneToOne}
 use Rattle.points.proofs.PointsLaws.{InRange, numberOf, indices-inRange, numberOf-indices, numberOf-lt, indices-numberOf}

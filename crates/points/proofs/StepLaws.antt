@@ -12,7 +12,8 @@ use lib.Dec.{ltb, leb, leb·suc-suc}
 use lib.ListN.{length, getD, set, take, drop, length-drop}
 use lib.Seq.{take-all, length-take-le, getD-take, getD-drop, drop-drop}
 use Rattle.lists.specs.Search.{any}
-use Rattle.points.specs.Axes.{count, limit}
+use Rattle.names.specs.Names.{limit}
+use Rattle.points.specs.Axes.{count}
 use Rattle.points.specs.Points.{indices, assigned}
 use Rattle.points.specs.OneToOne.{tooLarge}
 use Rattle.points.specs.Table.{axisIn, axesIn, laterIn, holdsAxis, holds, countIn}

@@ -6,14 +6,15 @@ use Prim.Native.Nat.{ℕ, _≤_, _<_}
 use lib.Dec.{ltb, leb, eqb}
 use lib.ListN.{length, getD}
 use Rattle.lists.specs.Search.{any, anyPair}
-use Rattle.points.specs.Axes.{Axis, defaults, count, limit}
+use Rattle.names.specs.Names.{nameCount, defaults, limit}
+use Rattle.points.specs.Axes.{Axis, count}
 use Rattle.points.specs.Points.{experiment}
 
 -- What an accepted plan's axes are
 
 -- the name is none of the fourteen (21)
 abbrev pub unknown : Axis → Bool
-unknown a = leb 14 (a .name)
+unknown a = leb nameCount (a .name)
 
 -- is i the axis's name?
 abbrev pub isNamed : ℕ → Axis → Bool
@@ -56,11 +57,11 @@ abbrev pub chosenFrom : List ℕ → Axis → Bool
 chosenFrom vs a = any (eqb (getD vs (a .name) 0)) (a .values)
 
 pub record Of (axes : List Axis) (vs : List ℕ) : Type 0 where
-  pub fourteen : length vs ≡ 14
+  pub fourteen : length vs ≡ nameCount
   -- each axis's name has one of that axis's values
   pub chosen : any (λ a. not (chosenFrom vs a)) axes ≡ false
   -- every other name has its default
-  pub others : (i : ℕ) → i < 14 → any (isNamed i) axes ≡ false → getD vs i 0 ≡ getD defaults i 0
+  pub others : (i : ℕ) → i < nameCount → any (isNamed i) axes ≡ false → getD vs i 0 ≡ getD defaults i 0
 
 -- The numbers below the count and the experiments of the plan
 pub record OneToOne (axes : List Axis) : Type 0 where

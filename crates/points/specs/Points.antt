@@ -4,7 +4,8 @@ use mathlib.Core.List.{List, [], _∷_}
 use Prim.Native.Nat.{ℕ, _/_, _%_}
 use lib.Dec.{ltb}
 use lib.ListN.{getD, set}
-use Rattle.points.specs.Axes.{Axis, defaults, count}
+use Rattle.names.specs.Names.{defaults}
+use Rattle.points.specs.Axes.{Axis, count}
 
 -- the first axis is slowest: its index is the point number divided by the product of the later lengths, and the rest of the number is
 -- decoded by the same rule over the later axes

@@ -5,7 +5,8 @@ use mathlib.Core.List.{List, [], _∷_, _++_}
 use Prim.Native.Nat.{ℕ, zero, suc, _+_}
 use lib.Dec.{ltb, leb, eqb}
 use lib.ListN.{length, getD, take, drop}
-use Rattle.points.specs.Axes.{Axis, defaults, count}
+use Rattle.names.specs.Names.{nameCount, defaults}
+use Rattle.points.specs.Axes.{Axis, count}
 use Rattle.points.specs.Points.{experiment, refusal}
 use Rattle.points.specs.OneToOne.{tooLarge}
 
@@ -30,7 +31,7 @@ axesIn (suc k) t = axisIn t ∷ axesIn k (laterIn t)
 -- does a table start with an axis: a name, and 1 to 64 values, none of which is too large for it?
 unfoldable pub holdsAxis : List ℕ → Bool
 holdsAxis t =
-    ltb (getD t 0 0) 14 && leb 1 (getD t 1 0) && leb (getD t 1 0) 64 && leb (2 + getD t 1 0) (length t) && not (tooLarge (axisIn t))
+    ltb (getD t 0 0) nameCount && leb 1 (getD t 1 0) && leb (getD t 1 0) 64 && leb (2 + getD t 1 0) (length t) && not (tooLarge (axisIn t))
 
 -- are the first k axes there?
 unfoldable pub holds : ℕ → List ℕ → Bool
@@ -51,16 +52,16 @@ pointsIn k t = cond (leb k 8 && holds k t) (count (axesIn k t)) 0
 abbrev pub refusalIn : ℕ → List ℕ → ℕ → ℕ
 refusalIn k t n = cond (leb k 8 && holds k t) (refusal (axesIn k t) n) 24
 
--- A point's experiment in a lent list, which may be longer than 14
+-- A point's experiment in a lent list, which may be longer than fourteen values
 
 -- 9: the list is too short
 abbrev pub answerFor : ℕ → List ℕ → ℕ → List ℕ → ℕ
-answerFor k t n out = cond (ltb (length out) 14) 9 (refusalIn k t n)
+answerFor k t n out = cond (ltb (length out) nameCount) 9 (refusalIn k t n)
 
 -- the first fourteen elements are the experiment and the others stay; with a number other than 0 all stay
 abbrev pub outAfter : ℕ → List ℕ → ℕ → List ℕ → List ℕ
-outAfter k t n out = cond (eqb (answerFor k t n out) 0) (experiment (axesIn k t) n ++ drop 14 out) out
+outAfter k t n out = cond (eqb (answerFor k t n out) 0) (experiment (axesIn k t) n ++ drop nameCount out) out
 
 -- before the axes are assigned
 abbrev pub withDefaults : List ℕ → List ℕ
-withDefaults out = defaults ++ drop 14 out
+withDefaults out = defaults ++ drop nameCount out

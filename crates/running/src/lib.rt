@@ -68,12 +68,12 @@ fn experiment_of(table: &[u64], axes: u64, point: u64) -> Experiment
     ensures { λ r. ⌜ r .settings ≡ settingsOf (experiment (axesIn axes (now (table .entry))) point) ⌝ }
     ensures { λ r. ⌜ r .seed ≡ seedOf (experiment (axesIn axes (now (table .entry))) point) ⌝ }
 {
-    let mut values = [0u64; 14];
+    let mut values = [0u64; names::COUNT];
     decoding::experiment(table, axes, point, &mut values);
     let settings = settings::settings_of(&values);
     Experiment {
         settings,
-        seed: values[13],
+        seed: values[names::SEED],
     }
 }
 

@@ -1,9 +1,8 @@
 -- The settings as numbers of a list: the thirteen names in the scope's order ("Plans and images"). Assumes nothing.
-use mathlib.Core.Bool.{cond}
 use mathlib.Core.List.{List}
 use Prim.Native.Nat.{ℕ, _%_, _^_}
-use lib.Dec.{ltb}
 use lib.ListN.{getD}
+use Rattle.names.specs.Names.{bitsOf}
 use Rattle.settings.specs.declared.Settings.{Settings}
 
 -- the settings whose values in that order are f 0, f 1 and so on
@@ -25,10 +24,7 @@ inOrder f =
       pmask = f 12;
     }
 
--- CONTROL, PSIZE and PMASK have 16 bits, the others 32
-abbrev pub bitsOf : ℕ → ℕ
-bitsOf i = cond (ltb i 10) 32 16
-
--- the settings that the first thirteen numbers are: of each the low bits, which are all of them where it fits; one past the end is 0
+-- the settings that the first thirteen numbers are: of each as many low bits as its name has, which are all of them where it is below
+-- the name's limit; one past the end is 0
 unfoldable pub settingsOf : List ℕ → Settings
 settingsOf ns = inOrder (λ i. getD ns i 0 % 2 ^ bitsOf i)

@@ -25,19 +25,19 @@ pub fn settings_of(numbers: &[u64]) -> Settings
     ensures { λ r. ⌜ r ≡ settingsOf (now (numbers .entry)) ⌝ }
 {
     Settings {
-        saddr: word_at(numbers, 0),
-        sptch: word_at(numbers, 1),
-        daddr: word_at(numbers, 2),
-        dptch: word_at(numbers, 3),
-        offset: word_at(numbers, 4),
-        wstart: word_at(numbers, 5),
-        wend: word_at(numbers, 6),
-        dydx: word_at(numbers, 7),
-        color0: word_at(numbers, 8),
-        color1: word_at(numbers, 9),
-        control: half_at(numbers, 10),
-        psize: half_at(numbers, 11),
-        pmask: half_at(numbers, 12),
+        saddr: word_at(numbers, names::SADDR),
+        sptch: word_at(numbers, names::SPTCH),
+        daddr: word_at(numbers, names::DADDR),
+        dptch: word_at(numbers, names::DPTCH),
+        offset: word_at(numbers, names::OFFSET),
+        wstart: word_at(numbers, names::WSTART),
+        wend: word_at(numbers, names::WEND),
+        dydx: word_at(numbers, names::DYDX),
+        color0: word_at(numbers, names::COLOR0),
+        color1: word_at(numbers, names::COLOR1),
+        control: half_at(numbers, names::CONTROL),
+        psize: half_at(numbers, names::PSIZE),
+        pmask: half_at(numbers, names::PMASK),
     }
 }
 
@@ -45,14 +45,14 @@ pub fn settings_of(numbers: &[u64]) -> Settings
 fn word_at(numbers: &[u64], at: usize) -> u32
     ensures { λ r. ⌜ r ≡ getD (now (numbers .entry)) at 0 % 2 ^ 32 ⌝ }
 {
-    (number_at(numbers, at) % 4294967296) as u32
+    (number_at(numbers, at) % (1 << 32)) as u32
 }
 
 // The low 16 bits of a number.
 fn half_at(numbers: &[u64], at: usize) -> u16
     ensures { λ r. ⌜ r ≡ getD (now (numbers .entry)) at 0 % 2 ^ 16 ⌝ }
 {
-    (number_at(numbers, at) % 65536) as u16
+    (number_at(numbers, at) % (1 << 16)) as u16
 }
 
 // A number; one past the end is 0.

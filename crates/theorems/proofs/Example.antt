@@ -4,7 +4,8 @@ use mathlib.Core.List.{_++_}
 use Rattle.lists.specs.Search.{any, first, anyPair}
 use Rattle.text.specs.Text.{before, parts, same}
 use Rattle.text.specs.Number.{areDigits, decimal, numberOf}
-use Rattle.points.specs.Axes.{limit, count}
+use Rattle.names.specs.Names.{limit}
+use Rattle.points.specs.Axes.{count}
 use Rattle.line.specs.Line.{memoryOf, drawOf, nameOf}
 use Rattle.axis.specs.Axis.{valuesOf, badForm, refusal}
 use Rattle.plan.specs.Reading.{kept, accepted, axisLines, drawLine, memoryLine, reading}

@@ -4,10 +4,12 @@ use mathlib.Core.Bool.{false, and-false}
 use mathlib.Core.List.{List}
 use Prim.Native.Nat.{ℕ, _+_, _*_, _<_, _≤_}
 use native.Mathlib.Omega.{arith}
-use borrow.Author.Tests.{le-ltb, ne-eqb, eq-eqb}
+use borrow.Author.Tests.{le-ltb, lt-leb, ne-eqb, eq-eqb}
 use lib.Dec.{ltb}
 use lib.ListN.{length}
 use Rattle.memory.specs.Bits.{mostWords, noMemory}
+use Rattle.names.specs.Drawings.{drawingCount}
+use Rattle.names.specs.Limits.{planWords}
 use Rattle.points.specs.Axes.{Axis, count}
 use Rattle.points.specs.Table.{axesIn}
 use Rattle.points.proofs.TableLaws.{axesIn-tableOf, pointsIn-tableOf}
@@ -44,11 +46,11 @@ written-of : (words size draw axes first k : ℕ) (t : List ℕ) → badShape wo
     → written words words size draw axes t first k ≡ pointLines words draw (axesIn axes t) first k
 written-of words size draw axes first k t b n p = rw (b, n, p)
 
-shape-of : (words draw k size : ℕ) → words ≤ 32768 → draw < 8 → longest * k ≤ size → badShape words words draw k size ≡ false
+shape-of : (words draw k size : ℕ) → words ≤ planWords → draw < drawingCount → longest * k ≤ size → badShape words words draw k size ≡ false
 shape-of words draw k size h d r =
-    rw (le-ltb 32768 words h, eq-eqb words words refl, le-ltb 7 draw (omega arith), le-ltb size (longest * k) r)
+    rw (le-ltb planWords words h, eq-eqb words words refl, lt-leb drawingCount draw d, le-ltb size (longest * k) r)
 
-some-of : (words : ℕ) → 1 ≤ words → words ≤ 32768 → noMemory words ≡ false
+some-of : (words : ℕ) → 1 ≤ words → words ≤ planWords → noMemory words ≡ false
 some-of words l h = rw (ne-eqb words 0 (omega arith), le-ltb mostWords words (omega arith))
 
 pub run-is-listing : RunIsListing

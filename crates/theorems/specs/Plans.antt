@@ -8,7 +8,8 @@ use lib.Dec.{eqb}
 use lib.ListN.{length, getD}
 use Rattle.lists.specs.Search.{any}
 use Rattle.settings.specs.Settings.{settingsOf}
-use Rattle.points.specs.Axes.{Axis, count, defaults}
+use Rattle.names.specs.Names.{defaults}
+use Rattle.points.specs.Axes.{Axis, count}
 use Rattle.points.specs.Points.{indices, experiment}
 use Rattle.points.specs.Table.{axesIn, pointsIn}
 use Rattle.points.specs.OneToOne.{isNamed, OneToOne}

@@ -26,7 +26,7 @@ returns : tie.Need-returns Inv-loop μ-loop
 returns c =
     let l = c .before .before in
     let x = l .before .before .args in
-    joined-end (x .name) (x .values .now) (l .loop .all) (l .loop .i) _ (c .before .loop-test .left) (l .loop .inv .1) (c .most .ensures)
+    joined-end (x .name) (x .values .now) (l .loop .all) (l .loop .i) _ (c .before .loop-test .left) (l .loop .inv .1) (c .greatest .ensures)
 
 pub too-large-spec : {M : Type 1} → statement M
 too-large-spec =

@@ -1,32 +1,17 @@
 -- `line::name_of` meets its contract: the names are the fields of the list that it looks in.
-use mathlib.Core.Path.{_≡_, ap₂, _∙_}
-use mathlib.Core.List.{List}
-use Prim.Native.Nat.{ℕ}
+use mathlib.Core.Path.{ap, _∙_}
 use borrow.Author.Needs.{needs}
-use denote.Ref.{now}
-use Rattle.lists.specs.Search.{first}
-use Rattle.text.specs.Text.{fieldsOf, same}
-use Rattle.line.specs.Line.{nameOf}
-use Rattle.line.specs.Words.{names}
-use Rattle.line.proofs.WordsLaws.{joined, names-joined}
+use Rattle.line.specs.Line.{nameOf, nameNumber}
+use Rattle.line.proofs.WordsLaws.{nameNumber-joined}
 use Rattle.line.proofs.name_of.Statement.{statement}
 use Rattle.line.proofs.name_of.Tie as tie
-
-slice-aggregate-index-of : tie.Need-slice-aggregate-index-of
-slice-aggregate-index-of c = search needs
-
-second-requires : tie.Need-second-requires
-second-requires c κs = search needs
-
-index-of-requires : tie.Need-index-of-requires
-index-of-requires c κs = search needs
 
 returns : tie.Need-returns
 unfolding nameOf
 returns c =
-    let e : c .index-of .result ≡ first (same (now (c .before .second .result))) (fieldsOf (joined names)) = c .index-of .ensures in
-    e ∙ ap₂ (λ (w : List ℕ) (ws : List (List ℕ)). first (same w) ws) (c .before .second .ensures .0) names-joined
+    let s = c .before in
+    c .index-of .ensures ∙ nameNumber-joined _ _ (s .before .before .list .ensures) ∙ ap nameNumber (s .second .ensures .0)
 
 pub name-of-spec : {M : Type 1} → statement M
 name-of-spec =
-    tie.close (tie.spec slice-aggregate-index-of second-requires index-of-requires returns)
+    tie.close (tie.spec (λ c κs. search needs) (λ c. search needs) (λ c κs. search needs) (λ c κs. search needs) returns)
