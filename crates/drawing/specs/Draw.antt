@@ -17,7 +17,7 @@ use Rattle.operation.specs.declared.Operation.{Operation}
 use Rattle.drawing.specs.declared.Outcome.{Outcome}
 use Rattle.operation.specs.Operation.{sourceOf, copies}
 use Rattle.arrays.specs.Array.{rectangleOf, part, vAfter, drawingFor}
-use Rattle.refusals.specs.Refusal.{refusal}
+use Rattle.array_refusal.specs.Refusal.{refusal}
 
 -- a refused call returns its number, no request, zero for visited, and settings, place, V and registers as given
 abbrev pub refused : Settings → ℕ → Bool → ℕ → Outcome

@@ -161,7 +161,7 @@ pub fn draw(
 {
     let c = arrays::part_of(op, s);
     let d = arrays::drawing_of(op, s, c);
-    let answer = refusals::refusal_of(op, s, c, d, place, memory.len());
+    let answer = array_refusal::refusal_of(op, s, c, d, place, memory.len());
     if answer != 0 {
         return refused(s, place, v, answer);
     }

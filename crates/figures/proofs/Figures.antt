@@ -11,12 +11,12 @@ use Rattle.pixel.specs.Pixel.{pixelOf, result, pixelAfter, withPixel, wordAfter
 use Rattle.address.specs.Address.{xyAddress, badXYPitch}
 use Rattle.windows.specs.Window.{common, clipped}
 use Rattle.walk.specs.Walk.{addressOf, reaches, leavesMemory}
+use Rattle.refusal.specs.Refusal.{lowest}
 use Rattle.lone.specs.Lone.{xyDestination}
-use Rattle.lone.specs.Lone as lone
 use Rattle.drav.specs.Drav.{dravOf}
 use Rattle.arrays.specs.Array.{part, vAfter, destStart, srcStart, drawingOf}
-use Rattle.refusals.specs.Refusal.{refusalOf}
-use Rattle.refusals.specs.Refusal as drawing
+use Rattle.array_refusal.specs.Refusal.{refusalOf}
+use Rattle.array_refusal.specs.Refusal as drawing
 use Rattle.drawing.specs.Draw.{outcomeAt, outcome}
 use Rattle.points.specs.Axes.{count}
 use Rattle.points.specs.Points.{indices}
@@ -25,7 +25,7 @@ use Rattle.figures.specs.Figures.{Figures}
 pub figures : Figures
 unfolding bitOf bitAt number refusal register fieldRead caseOf stepped any first anyPair badState latest lookup fetched operations
     processed pixelOf result pixelAfter withPixel wordAfter xyAddress badXYPitch common clipped addressOf reaches leavesMemory
-    xyDestination lone.refusal dravOf part vAfter destStart srcStart drawingOf refusalOf drawing.refusal outcomeAt outcome count
+    lowest xyDestination dravOf part vAfter destStart srcStart drawingOf refusalOf drawing.refusal outcomeAt outcome count
     indices
 figures =
     record {

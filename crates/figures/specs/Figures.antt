@@ -25,7 +25,7 @@ use Rattle.settings.specs.declared.Settings.{Settings}
 use Rattle.lone.specs.Lone.{xyDestination}
 use Rattle.pixt.specs.Pixt.{drawnAt}
 use Rattle.drav.specs.Drav.{dravOf}
-use Rattle.refusals.specs.Refusal.{refusal}
+use Rattle.array_refusal.specs.Refusal.{refusal}
 use Rattle.drawing.specs.Draw.{outcome}
 use Rattle.operation.specs.declared.Operation.the-variants.{FillXY}
 use Rattle.points.specs.Axes.{Axis}

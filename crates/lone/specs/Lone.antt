@@ -3,27 +3,32 @@
 use mathlib.Core.Bool.{Bool, true, false, cond, not, _&&_, _||_}
 use Prim.Native.Nat.{ℕ, _*_}
 use lib.Dec.{eqb, leb}
-use Rattle.memory.specs.Bits.{noMemory}
-use Rattle.pixel.specs.Control.{windowing, badControl}
-use Rattle.pixel.specs.Pixel.{badPixelSize}
+use Rattle.pixel.specs.Control.{windowing}
 use Rattle.address.specs.Coordinate.{xOf, yOf, negative}
 use Rattle.address.specs.Address.{xyAddress, badXYPitch, misaligned}
-use Rattle.windows.specs.Window.{windowOf, badWindowing, clipped}
+use Rattle.windows.specs.Window.{windowOf, clipped}
 use Rattle.windows.specs.declared.Clipped.{Clipped}
 use Rattle.settings.specs.declared.Settings.{Settings}
+use Rattle.refusal.specs.declared.Tests.{Tests}
+use Rattle.refusal.specs.Refusal.{badWindowOf, lowest}
 use Rattle.lone.specs.declared.Lone.{Lone}
 
--- the lowest refusal number that applies, or 0. 13 is for XY pixels, 14 for XY destinations; 16 and 17 are given where there is a
--- pixel to draw or read
-unfoldable pub refusal : ℕ → Settings → Bool → Bool → Bool → Bool → ℕ → ℕ
+-- the tests of a call: 13 is for XY pixels, 14 for XY destinations; 16 and 17 are given where there is
+-- a pixel to draw or read; there is no place
+abbrev pub testsOf : ℕ → Bool → Bool → Bool → Bool → ℕ → Tests
+testsOf words pitch window some start a =
+    record {
+      pitch = pitch;
+      window = window;
+      place = false;
+      start = some && start;
+      end = some && leb (16 * words) a;
+    }
+
+-- the lowest refusal number that applies, or 0
+abbrev pub refusal : ℕ → Settings → Bool → Bool → Bool → Bool → ℕ → ℕ
 refusal words s pitch window some start a =
-    cond (noMemory words) 10
-    (cond (badPixelSize (s .psize)) 11
-    (cond (badControl (s .control)) 12
-    (cond pitch 13
-    (cond window 14
-    (cond (some && start) 16
-    (cond (some && leb (16 * words) a) 17 0))))))
+    lowest words s (testsOf words pitch window some start a)
 
 -- a pixel at a linear address: no pitch, no window, V is kept
 unfoldable pub linearPixel : ℕ → Settings → ℕ → Bool → Lone
@@ -61,7 +66,9 @@ shown c = not (eqb (c .cols) 0 || eqb (c .rows) 0)
 unfoldable pub xyDestination : ℕ → Settings → ℕ → Bool → Lone
 xyDestination words s xy v =
     record {
-      answer = refusal words s (badXYPitch (s .dptch)) (badWindowing (windowing (s .control)) (windowOf (s .wstart) (s .wend))) (shown (windowed s xy v)) (badStart s xy) (placeOf s xy);
+      answer =
+          refusal words s (badXYPitch (s .dptch)) (badWindowOf true s) (shown (windowed s xy v))
+          (badStart s xy) (placeOf s xy);
       some = shown (windowed s xy v);
       address = placeOf s xy;
       v = windowed s xy v .v;

@@ -1,8 +1,10 @@
 // A lone pixel: its refusal, whether it is shown, and where it is.
 ghost use mathlib.Core.Path.{_≡_};
-ghost use Rattle.pixel.specs.Control.{windowing};
-ghost use Rattle.windows.specs.Window.{windowOf, badWindowing};
-ghost use Rattle.lone.specs.Lone.{badStart, placeOf, windowed, refusal, linearPixel, xySource, xyDestination};
+ghost use Prim.Native.Nat.{_*_};
+ghost use lib.Dec.{leb};
+ghost use Rattle.lone.specs.Lone.{badStart, placeOf, windowed, refusal};
+ghost use Rattle.lone.specs.Lone.{linearPixel, xySource, xyDestination};
+use refusal::Tests;
 use settings::Settings;
 use windows::Clipped;
 use windows::Rectangle;
@@ -51,7 +53,7 @@ pub fn xy_destination(words: usize, s: Settings, xy: u32, v: bool) -> Lone
 {
     let address = place_of(s, xy);
     let pitch = address::bad_xy_pitch(s.dptch);
-    let window = window_is_bad(s);
+    let window = refusal::bad_window_of(true, s);
     let c = windowed(s, xy, v);
     let some = !((c.cols == 0) | (c.rows == 0));
     let start = bad_start(s, xy, address);
@@ -77,28 +79,22 @@ fn refusal_of(
 ) -> u32
     ensures { λ r. ⌜ r ≡ refusal words s pitch window some start address ⌝ }
 {
-    if memory::no_memory(words) {
-        return 10;
-    }
-    if pixel::bad_pixel_size(s.psize) {
-        return 11;
-    }
-    if pixel::bad_control(s.control) {
-        return 12;
-    }
-    if pitch {
-        return 13;
-    }
-    if window {
-        return 14;
-    }
-    if some & start {
-        return 16;
-    }
-    if some & (16 * (words as u64) <= address as u64) {
-        return 17;
-    }
-    0
+    let past = past_end(words, address);
+    let tests = Tests {
+        pitch,
+        window,
+        place: false,
+        start: some & start,
+        end: some & past,
+    };
+    refusal::lowest(words, s, tests)
+}
+
+// Does an address lie past the memory's end?
+fn past_end(words: usize, address: u32) -> bool
+    ensures { λ r. ⌜ r ≡ leb (16 * words) address ⌝ }
+{
+    words as u64 <= (address / 16) as u64
 }
 
 // The linear address of an XY pixel.
@@ -121,16 +117,6 @@ fn bad_start(s: Settings, xy: u32, address: u32) -> bool
 {
     address::negative(address::x_of(xy) as u32)
         | (address::negative(address::y_of(xy) as u32) | address::misaligned(s.psize, address))
-}
-
-// Is the window used, and bad?
-fn window_is_bad(s: Settings) -> bool
-    ensures { λ r. ⌜ r ≡ badWindowing (windowing (s .control)) (windowOf (s .wstart) (s .wend)) ⌝ }
-{
-    windows::bad_windowing(
-        pixel::windowing(s.control),
-        windows::window_of(s.wstart, s.wend),
-    )
 }
 
 fn windowed(s: Settings, xy: u32, v: bool) -> Clipped

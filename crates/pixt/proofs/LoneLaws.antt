@@ -3,23 +3,23 @@
 use mathlib.Core.Path.{_≡_, refl, sym, ap, subst, _∙_}
 use mathlib.Core.Bool.{Bool, true, false, cond, _&&_, and-eq-true-iff}
 use mathlib.Core.List.{List}
-use Prim.Native.Nat.{ℕ, suc, _+_, _-_, _*_, _/_, _%_, _^_, _≤_}
+use Prim.Native.Nat.{ℕ, _+_, _-_, _*_, _/_, _%_, _^_, _≤_}
 use native.Mathlib.Omega.{arith}
 use borrow.Author.Tests.{eqb-true, not-false}
 use lib.Bits.{bitAnd, and-mask}
 use lib.Dec.{eqb}
 use lib.Pow.{field, shl-shr, mod-mod-pow}
-use Rattle.memory.specs.Bits.{noMemory}
 use Rattle.memory.proofs.Tests.{or-false-right}
-use Rattle.pixel.specs.Control.{transparency, processing, badControl}
+use Rattle.pixel.specs.Control.{transparency, processing}
 use Rattle.pixel.specs.Pixel.{badPixelSize, topOf, pixelOf, plotted}
 use Rattle.pixel.proofs.SizeLaws.{size-le, aligned-fits, topOf-ones}
 use Rattle.pixel.proofs.PixelLaws.{pixelOf-mod}
 use Rattle.address.specs.Coordinate.{xOf, yOf, negative}
 use Rattle.address.specs.Address.{misaligned}
 use Rattle.settings.specs.declared.Settings.{Settings}
+use Rattle.refusal.proofs.RefusalLaws as table
 use Rattle.lone.specs.declared.Lone.{Lone}
-use Rattle.lone.specs.Lone.{refusal, linearPixel, placeOf, badStart, xyDestination}
+use Rattle.lone.specs.Lone.{testsOf, refusal, linearPixel, placeOf, badStart, xyDestination}
 use Rattle.pixt.specs.Pixt.{drawnAt, lowBits}
 
 -- ---- a register's bits at a place in a word
@@ -39,22 +39,12 @@ pixelOf-shifted p a value h =
 abbrev pub Aligned : Settings → Lone → Type 0
 Aligned s l = (eqb (l .answer) 0 && l .some) ≡ true → (badPixelSize (s .psize) ≡ false) × (misaligned (s .psize) (l .address) ≡ false)
 
--- where the first number that applies is 0, a test has failed, and so have the rest
-pass : (t : Bool) (n r : ℕ) → cond t (suc n) r ≡ 0 → (t ≡ false) × (r ≡ 0)
-pass true n r e = absurd (omega arith)
-pass false n r e = (refl, e)
-
 module _ (words : ℕ) (s : Settings) where
   passes : (pitch window some start : Bool) (a : ℕ) → refusal words s pitch window some start a ≡ 0 → some ≡ true
       → (badPixelSize (s .psize) ≡ false) × (start ≡ false)
-  unfolding refusal
   passes pitch window some start a e h =
-      let e11 = pass (noMemory words) 9 _ e .1 in
-      let e12 = pass (badPixelSize (s .psize)) 10 _ e11 in
-      let e13 = pass (badControl (s .control)) 11 _ (e12 .1) .1 in
-      let e14 = pass pitch 12 _ e13 .1 in
-      let e16 = pass window 13 _ e14 .1 in
-      (e12 .0, sym (ap (λ (b : Bool). b && start) h) ∙ pass (some && start) 15 _ e16 .0)
+      let p = table.passes words s (testsOf words pitch window some start a) e in
+      (p .size, sym (ap (λ (b : Bool). b && start) h) ∙ p .start)
 
   pub linearPixel-aligned : (a : ℕ) (v : Bool) → Aligned s (linearPixel words s a v)
   unfolding linearPixel

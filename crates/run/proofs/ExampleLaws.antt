@@ -12,7 +12,8 @@ use Rattle.settings.specs.Settings.{settingsOf}
 use Rattle.row.specs.Row.{sourceAt, drawnAt}
 use Rattle.engine.specs.Engine.{visits}
 use Rattle.arrays.specs.Array.{part, vAfter, destStart, srcStart, drawingOf}
-use Rattle.refusals.specs.Refusal.{refusalOf, refusal}
+use Rattle.refusal.specs.Refusal.{lowest}
+use Rattle.array_refusal.specs.Refusal.{refusalOf, refusal}
 use Rattle.drawing.specs.Draw.{outcomeAt, outcome, drawn}
 use Rattle.points.specs.Axes.{count}
 use Rattle.points.specs.Points.{indices, assigned, experiment}
@@ -22,5 +23,5 @@ use Rattle.run.specs.Lines.{pointLines}
 use Rattle.run.specs.Example.{Example}
 
 pub example : Example
-unfolding bitOf bitAt differing changedBits stepped operations processed pixelOf result pixelAfter withPixel wordAfter plotted xyAddress badXYPitch common clipped addressOf reaches leavesMemory settingsOf sourceAt drawnAt visits part vAfter destStart srcStart drawingOf refusalOf refusal outcomeAt outcome drawn count indices assigned experiment digits numbersLine ranOver pointLine pointLines
+unfolding bitOf bitAt differing changedBits stepped operations processed pixelOf result pixelAfter withPixel wordAfter plotted xyAddress badXYPitch common clipped addressOf reaches leavesMemory settingsOf sourceAt drawnAt visits part vAfter destStart srcStart drawingOf lowest refusalOf refusal outcomeAt outcome drawn count indices assigned experiment digits numbersLine ranOver pointLine pointLines
 example = refl

@@ -21,7 +21,7 @@ use Rattle.plot.proofs.DrawingLaws.{pixels-lt}
 use Rattle.operation.specs.declared.Operation.{Operation}
 use Rattle.operation.specs.Operation.{toXY}
 use Rattle.arrays.specs.Array.{rectangleOf, part, drawingOf, drawingFor}
-use Rattle.refusals.specs.Refusal.{refusal}
+use Rattle.array_refusal.specs.Refusal.{refusal}
 use Rattle.drawing.specs.Draw.{outcomeAt, visitedBy, outcome, drawn}
 use Rattle.points.specs.Points.{experiment}
 use Rattle.points.specs.Table.{axesIn, pointsIn, outAfter}

@@ -12,7 +12,7 @@ use lib.ListN.{length}
 use Rattle.memory.specs.Bits.{Memory}
 use Rattle.engine.specs.Engine.{visit, visits as walkVisits}
 use Rattle.arrays.specs.Array.{vAfter}
-use Rattle.refusals.specs.Refusal.{refusal}
+use Rattle.array_refusal.specs.Refusal.{refusal}
 use Rattle.drawing.specs.Draw.{refused, outcomeAt, visitedBy}
 use Rattle.engine.proofs.VisitsLaws.{memory-visits}
 use Rattle.interleave.proofs.VisitLaws.{visits, upto, visits-zero}

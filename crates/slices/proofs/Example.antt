@@ -18,7 +18,8 @@ use Rattle.engine.specs.Footprint.{pixel-bit, source-bit}
 use Rattle.operation.specs.declared.Operation.the-variants.{FillXY, PixbltLL}
 use Rattle.operation.specs.Operation.{copies, copiesPixels}
 use Rattle.arrays.specs.Array.{part, vAfter, destStart, srcStart, drawingOf}
-use Rattle.refusals.specs.Refusal.{refusalOf, refusal}
+use Rattle.refusal.specs.Refusal.{lowest}
+use Rattle.array_refusal.specs.Refusal.{refusalOf, refusal}
 use Rattle.drawing.specs.Draw.{outcomeAt, outcome, drawn}
 use Rattle.slices.specs.Calls.{Job, Call, slice, other, next, run}
 use Rattle.slices.specs.Demand3.{Writes, Reads, BitsApart, afterCalls, OneThenOther}
@@ -119,14 +120,14 @@ computed : (afterCalls fill copy false true m cs .memory ≡ 49151 ∷ 10 ∷ 17
     ≡ record { answer = 0; place = 3; v = true; request = false; saddr = 0; daddr = 16; dydx = 65540; settings = fill .settings })
     × (afterCalls fill copy false true m cs .held 1
     ≡ record { answer = 0; place = 2; v = true; request = false; saddr = 48; daddr = 28; dydx = 65538; settings = copy .settings })
-unfolding run next outcome outcomeAt drawn refusal refusalOf vAfter drawingOf part destStart srcStart clipped common xyAddress
+unfolding run next outcome outcomeAt drawn refusal refusalOf lowest vAfter drawingOf part destStart srcStart clipped common xyAddress
     badXYPitch leavesMemory reaches addressOf visits drawnAt sourceAt plotted wordAfter withPixel pixelAfter result processed
     operations pixelOf
 computed = (refl, refl, refl)
 
 applied : OneThenOther 0 1 fill copy false true 3 9 m (afterCalls fill copy false true m cs)
     × OneThenOther 1 0 copy fill true false 9 3 m (afterCalls fill copy false true m cs)
-unfolding refusal refusalOf drawingOf part destStart srcStart clipped common xyAddress badXYPitch leavesMemory reaches addressOf
+unfolding refusal refusalOf lowest drawingOf part destStart srcStart clipped common xyAddress badXYPitch leavesMemory reaches addressOf
 applied =
     demand3 3 m good fill copy refl refl apart false true cs
     (omega arith, (omega arith, ((λ z. omega arith), (omega arith, (omega arith, (omega arith, (omega arith, tt)))))))

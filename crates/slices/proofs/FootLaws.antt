@@ -23,8 +23,8 @@ use Rattle.engine.proofs.FootprintLaws.{memory-visit, visit-frame, visit-depend
 use Rattle.operation.specs.declared.Operation.{Operation}
 use Rattle.operation.specs.Operation.{toXY, fromXY, sourceOf, copiesPixels}
 use Rattle.arrays.specs.Array.{part, drawingOf, drawingFor, destStart, srcStart}
-use Rattle.refusals.specs.Refusal.{badPitch, badDest, badSource, negativeStart}
-use Rattle.refusals.proofs.RefusalLaws.{Passes, passes}
+use Rattle.array_refusal.specs.Refusal.{badPitch, badDest, badSource, negativeStart}
+use Rattle.array_refusal.proofs.RefusalLaws.{Passes, passes}
 use Rattle.interleave.proofs.FootprintLaws.{Foot}
 use Rattle.slices.specs.Calls.{Job}
 use Rattle.slices.specs.Demand3.{walkOf, pixelsOf, Accepted}
@@ -62,17 +62,17 @@ module _ (op : Operation) (s : Settings) (k w : ℕ) (p : Passes op s k w) (i : 
 
   -- there are pixels, so that 16 looks at the starts
   pub starts : (badTo || badFrom) ≡ false
-  starts = and-false _ _ (ap not (ne-eqb (pixels (drawingFor op s)) 0 (omega arith))) (p .starts)
+  starts = and-false _ _ (ap not (ne-eqb (pixels (drawingFor op s)) 0 (omega arith))) (p .start)
 
   dest-inside : destOf (drawingFor op s) i < 16 * w
-  dest-inside = lt-of-leavesMemory w _ _ _ _ _ (p .words) (or-false-left _ _ (p .room)) i h
+  dest-inside = lt-of-leavesMemory w _ _ _ _ _ (p .memory) (or-false-left _ _ (p .end)) i h
 
   dest-fits : destOf (drawingFor op s) i % 16 + drawingFor op s .psize ≤ 16
   unfolding drawingOf
   dest-fits =
       walk-room (s .psize) (p .size) (destStart op s (part op s)) _ (s .dptch) i
       (or-false-right (toXY op && negativeStart (s .daddr) (part op s)) _ (or-false-left badTo badFrom starts))
-      (multiple-of-badPitch (toXY op) (s .dptch) (or-false-left _ _ (p .pitches)))
+      (multiple-of-badPitch (toXY op) (s .dptch) (or-false-left _ _ (p .pitch)))
 
   src-fits : drawingFor op s .source ≡ Pixels → srcOf (drawingFor op s) i % 16 + drawingFor op s .psize ≤ 16
   unfolding drawingOf
@@ -83,7 +83,7 @@ module _ (op : Operation) (s : Settings) (k w : ℕ) (p : Passes op s k w) (i : 
       (sym e)
       (walk-room (s .psize) (p .size) (srcStart op s (part op s)) _ (s .sptch) i
       (or-false-right (fromXY op && negativeStart (s .saddr) (part op s)) _ (and-false _ _ c (or-false-right badTo badFrom starts)))
-      (multiple-of-badPitch (fromXY op) (s .sptch) (and-false _ _ c (or-false-right (badPitch (toXY op) (s .dptch)) _ (p .pitches)))))
+      (multiple-of-badPitch (fromXY op) (s .sptch) (and-false _ _ c (or-false-right (badPitch (toXY op) (s .dptch)) _ (p .pitch)))))
 
   pixel-foot : Foot w (PixelWrites (drawingFor op s) i) (PixelReads (drawingFor op s) i) (visit (drawingFor op s) i)
   pixel-foot =

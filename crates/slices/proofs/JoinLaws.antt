@@ -15,11 +15,11 @@ use Rattle.engine.proofs.VisitsLaws.{length-visits, visits-add}
 use Rattle.operation.specs.declared.Operation.{Operation}
 use Rattle.drawing.specs.declared.Outcome.{Outcome}
 use Rattle.arrays.specs.Array.{vAfter, drawingFor}
-use Rattle.refusals.specs.Refusal.{refusal}
+use Rattle.array_refusal.specs.Refusal.{refusal}
 use Rattle.drawing.specs.Draw.{refused, outcomeAt, visitedBy, outcome, drawn}
-use Rattle.refusals.proofs.RefusalLaws.{place-le}
+use Rattle.array_refusal.proofs.RefusalLaws.{place-le, refusal-moved}
 use Rattle.slices.specs.Joined.{together, total, handedBy, leftBy}
-use Rattle.slices.proofs.OutcomeLaws.{at, refusal-moved, vAfter-twice, outcome-accepted, outcome-refused, drawn-accepted}
+use Rattle.slices.proofs.OutcomeLaws.{at, vAfter-twice, outcome-accepted, outcome-refused, drawn-accepted}
 use Rattle.slices.proofs.OutcomeLaws.{drawn-refused}
 
 module _ (op : Operation) (s : Settings) where

@@ -7,7 +7,7 @@ use mathlib.Core.List.{List}
 use Prim.Native.Nat.{ℕ, _+_, _≤_}
 use native.Mathlib.Decide.{ℕ-discrete}
 use native.Mathlib.Omega.{arith}
-use borrow.Author.Tests.{eq-eqb, ne-eqb, le-ltb}
+use borrow.Author.Tests.{eq-eqb, ne-eqb}
 use lib.Dec.{eqb}
 use lib.ListN.{length}
 use Rattle.pixel.specs.Control.{windowing}
@@ -18,26 +18,8 @@ use Rattle.operation.specs.declared.Operation.{Operation}
 use Rattle.drawing.specs.declared.Outcome.{Outcome}
 use Rattle.operation.specs.Operation.{toXY}
 use Rattle.arrays.specs.Array.{part, vAfter, drawingFor}
-use Rattle.refusals.specs.Refusal.{refusal}
+use Rattle.array_refusal.specs.Refusal.{refusal}
 use Rattle.drawing.specs.Draw.{refused, outcomeAt, visitedBy, outcome, drawn}
-use Rattle.refusals.proofs.RefusalLaws.{passes, refusal-of-passes}
-
--- only 15 looks at the place
-pub refusal-moved : (op : Operation) (s : Settings) (k k′ w : ℕ) → refusal op s k w ≡ 0
-    → k′ ≤ pixels (drawingFor op s) → refusal op s k′ w ≡ 0
-refusal-moved op s k k′ w e h =
-    let p = passes op s k w e in
-    refusal-of-passes op s k′ w
-    (record {
-      words = p .words;
-      size = p .size;
-      control = p .control;
-      pitches = p .pitches;
-      window = p .window;
-      place = le-ltb (pixels (drawingFor op s)) k′ h;
-      starts = p .starts;
-      room = p .room;
-    })
 
 -- ---- V is worked out anew, or stays
 pub vAfter-twice : (op : Operation) (s : Settings) (v : Bool) → vAfter op s (vAfter op s v) ≡ vAfter op s v

@@ -8,10 +8,10 @@ use native.Mathlib.Decide.{ℕ-discrete}
 use native.Mathlib.Omega.{arith}
 use lib.Dec.{eqb}
 use lib.ListN.{length}
-use Rattle.refusals.proofs.RefusalLaws.{refusal-ten}
+use Rattle.array_refusal.proofs.RefusalLaws.{refusal-number, refusal-moved}
 use Rattle.slices.specs.Calls.{Job, Held, Call, slice, other, State, handedBack, after, next, run, start}
 use Rattle.slices.specs.Demand3.{pixelsOf, Accepted, Drawings, Fine, reached}
-use Rattle.slices.proofs.OutcomeLaws.{refusal-moved, vAfter-twice}
+use Rattle.slices.proofs.OutcomeLaws.{vAfter-twice}
 use Rattle.slices.proofs.CallLaws.{cond-eq, cond-ne, number, flag, visitedOf, heldAt, heldAt-flag, heldAt-v, handed-accepted}
 use Rattle.slices.proofs.CallLaws.{handed-refused, memory-accepted, memory-refused, after-accepted, after-refused}
 use Rattle.slices.proofs.CountLaws.{cnt-live, cnt-none, step}
@@ -62,7 +62,7 @@ module _ {w : ℕ} (S : Drawings w) where
       let h : after (handedBack d k b v (s .memory)) (s .held j) ≡ s .held j =
       ap (λ (r : Held). after r (s .held j)) (handed-refused d k b v (s .memory) e)
       ∙ after-refused d k v (number d k (length (s .memory))) (s .held j)
-      (omega (arith, q, refusal-ten (d .operation) (d .settings) 0 w hr)) in
+      (omega (arith, q, refusal-number (d .operation) (d .settings) 0 w .least hr)) in
       let hs : (x : ℕ) → cond (eqb x j) (after (handedBack d k b v (s .memory)) (s .held j)) (s .held x) ≡ s .held x =
       λ x. ap (λ (g : Held). cond (eqb x j) g (s .held x)) h ∙ same-held (s .held) j x in
       λ i. record { memory = memory-refused d k b (s .memory) e i; held = λ x. hs x i }

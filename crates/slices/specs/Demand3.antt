@@ -14,7 +14,7 @@ use Rattle.plot.specs.Drawing.{pixels}
 use Rattle.engine.specs.Footprint.{PixelWrites, PixelReads}
 use Rattle.plot.specs.declared.Drawing.{Drawing}
 use Rattle.arrays.specs.Array.{drawingFor}
-use Rattle.refusals.specs.Refusal.{refusal}
+use Rattle.array_refusal.specs.Refusal.{refusal}
 use Rattle.interleave.specs.Apart.{Apart}
 use Rattle.interleave.specs.Order.{Order}
 use Rattle.slices.specs.Calls.{Job, Call, slice, other, State, handedBack, memoryAfter, run, fresh, start}

@@ -21,8 +21,8 @@ use Rattle.operation.specs.declared.Operation.{Operation}
 use Rattle.operation.specs.declared.Operation.the-variants.{FillL, FillXY, PixbltLL, PixbltLXY, PixbltXYL, PixbltXYXY, PixbltBL, PixbltBXY}
 use Rattle.operation.specs.Operation.{toXY, fromXY, sourceOf, copiesPixels}
 use Rattle.arrays.specs.Array.{rectangleOf, part, startX, startY, destStart, srcStart, drawingOf, drawingFor}
-use Rattle.refusals.specs.Refusal.{badDest, badSource, negativeStart, refusal}
-use Rattle.refusals.proofs.RefusalLaws.{passes}
+use Rattle.array_refusal.specs.Refusal.{badDest, badSource, negativeStart, refusal}
+use Rattle.array_refusal.proofs.RefusalLaws.{passes}
 use Rattle.slices.proofs.FootLaws.{and-false, starts}
 use Rattle.theorems.specs.Arrays.{columnOf, rowOf, placeAt}
 

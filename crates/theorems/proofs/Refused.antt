@@ -12,9 +12,8 @@ use Rattle.drav.specs.Drav.{dravOf}
 use Rattle.plot.specs.Drawing.{pixels}
 use Rattle.arrays.specs.Array.{drawingFor}
 use Rattle.drawing.specs.Draw.{outcomeAt, visitedBy, outcome, drawn}
-use Rattle.refusals.proofs.RefusalLaws.{refusal-ten}
+use Rattle.array_refusal.proofs.RefusalLaws.{refusal-number}
 use Rattle.slices.proofs.OutcomeLaws.{outcome-refused}
-use Rattle.run.proofs.LinesLaws.{refusal-le}
 use Rattle.plan.proofs.PlanLaws.{tableAfter-refused}
 use Rattle.theorems.specs.Refused.{DrawRefused, DrawAccepted, DrawNumbers, PixtRefused, DravRefused, WriteRefused, ImageRefused}
 use Rattle.theorems.specs.Refused.{FetchRefused, PlanRefused, OfRefusals}
@@ -33,7 +32,8 @@ draw-accepted op s place v budget words e = rw (eq-eqb _ _ e) (go (eqb (place + 
 
 pub draw-numbers : DrawNumbers
 draw-numbers op s place v budget words h =
-    rw (outcome-refused op s place v budget words h) (refusal-ten op s place words h, refusal-le op s place words)
+    let n = refusal-number op s place words in
+    rw (outcome-refused op s place v budget words h) (n .least h, n .most)
 
 pub pixt-refused : PixtRefused
 unfolding pixtTo pixtFrom

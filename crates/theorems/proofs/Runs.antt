@@ -14,8 +14,8 @@ use Rattle.settings.specs.Settings.{settingsOf}
 use Rattle.operation.specs.declared.Operation.{Operation}
 use Rattle.operation.specs.Operation.{operationOf}
 use Rattle.arrays.specs.Array.{drawingFor}
-use Rattle.refusals.specs.Refusal.{refusal}
-use Rattle.refusals.proofs.RefusalLaws.{refusal-ten}
+use Rattle.array_refusal.specs.Refusal.{refusal}
+use Rattle.array_refusal.proofs.RefusalLaws.{refusal-number}
 use Rattle.plot.specs.Drawing.{pixels}
 use Rattle.text.specs.Number.{numberOf, valueOf}
 use Rattle.points.specs.Axes.{count}
@@ -29,7 +29,7 @@ use Rattle.listing.specs.Listing.{heading, refusedLine}
 use Rattle.run.specs.Run.{ranOver, imageFor}
 use Rattle.run.specs.Lines.{pointLines}
 use Rattle.run.proofs.RunLaws.{ranOver-refused, ranOver-done}
-use Rattle.run.proofs.LinesLaws.{refusal-le, pointLines-add}
+use Rattle.run.proofs.LinesLaws.{pointLines-add}
 use Rattle.run.proofs.AnswerLaws.{endsPast-of-point, endsPast-of-none}
 use Rattle.run.proofs.ValuesLaws.{settings-kept-small}
 use Rattle.theorems.specs.Plans.{linesFrom}
@@ -42,8 +42,8 @@ use Rattle.theorems.proofs.WritingLaws.{numberOf-decimal}
 refused-point : (op : Operation) (s : Settings) (m : List ℕ) → refusal op s 0 (length m) ≢ 0 → RefusedPoint (ranOver op s m)
 refused-point op s m h =
     rw (ranOver-refused op s m h) (record {
-      least = refusal-ten op s 0 (length m) h;
-      most = refusal-le op s 0 (length m);
+      least = refusal-number op s 0 (length m) .least h;
+      most = refusal-number op s 0 (length m) .most;
       visited = refl;
       v = refl;
       changed = refl;

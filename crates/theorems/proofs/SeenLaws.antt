@@ -22,7 +22,7 @@ use Rattle.operation.specs.declared.Operation.{Operation}
 use Rattle.drawing.specs.declared.Outcome.{Outcome}
 use Rattle.operation.specs.Operation.{toXY}
 use Rattle.arrays.specs.Array.{rectangleOf, part, vAfter}
-use Rattle.refusals.specs.Refusal.{refusal}
+use Rattle.array_refusal.specs.Refusal.{refusal}
 use Rattle.drawing.specs.Draw.{outcomeAt, outcome}
 use Rattle.slices.proofs.OutcomeLaws.{outcome-accepted}
 use Rattle.theorems.specs.Windows.{Common, Outside, ByPixels}

@@ -15,7 +15,7 @@ use Rattle.engine.specs.Engine.{destOf, srcOf}
 use Rattle.operation.specs.declared.Operation.{Operation}
 use Rattle.operation.specs.Operation.{toXY, fromXY, sourceOf}
 use Rattle.arrays.specs.Array.{rectangleOf, part, drawingFor}
-use Rattle.refusals.specs.Refusal.{refusal}
+use Rattle.array_refusal.specs.Refusal.{refusal}
 
 -- ---- walks
 

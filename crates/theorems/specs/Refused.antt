@@ -17,7 +17,7 @@ use Rattle.lone.specs.declared.Lone.{Lone}
 use Rattle.pixt.specs.Pixt.{drawnAt, pixtTo, pixtFrom}
 use Rattle.drav.specs.Drav.{dravOf}
 use Rattle.operation.specs.declared.Operation.{Operation}
-use Rattle.refusals.specs.Refusal.{refusal}
+use Rattle.array_refusal.specs.Refusal.{refusal}
 use Rattle.drawing.specs.Draw.{outcome, drawn}
 use Rattle.plan.specs.Table.{planOf, tableAfter}
 

@@ -13,7 +13,7 @@ use Rattle.settings.specs.declared.Settings.{Settings}
 use Rattle.operation.specs.declared.Operation.{Operation}
 use Rattle.operation.specs.Operation.{toXY}
 use Rattle.arrays.specs.Array.{rectangleOf}
-use Rattle.refusals.specs.Refusal.{refusal}
+use Rattle.array_refusal.specs.Refusal.{refusal}
 use Rattle.drawing.specs.Draw.{outcome}
 
 -- Whatever W but 0 keeps of a rectangle are pixels of it that lie in the window.

@@ -10,9 +10,9 @@ use Rattle.plot.specs.Drawing.{pixels}
 use Rattle.engine.specs.Engine.{visits, visitedFrom}
 use Rattle.plot.specs.declared.Drawing.{Drawing}
 use Rattle.arrays.specs.Array.{part, vAt, vAfter, drawingOf, drawingFor}
-use Rattle.refusals.specs.Refusal.{refusalOf, refusal}
+use Rattle.array_refusal.specs.Refusal.{refusalOf, refusal}
 use Rattle.drawing.specs.Draw.{refused, outcomeAt, visitedBy, outcome, drawn}
-use Rattle.refusals.proofs.RefusalLaws.{place-le}
+use Rattle.array_refusal.proofs.RefusalLaws.{place-le}
 use Rattle.drawing.proofs.draw.Statement.{statement}
 use Rattle.drawing.proofs.draw.Tie as tie
 

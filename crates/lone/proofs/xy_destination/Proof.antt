@@ -10,8 +10,8 @@ place-of-requires c κs = search needs
 bad-xy-pitch-requires : tie.Need-bad-xy-pitch-requires
 bad-xy-pitch-requires c κs = search needs
 
-window-is-bad-requires : tie.Need-window-is-bad-requires
-window-is-bad-requires c κs = search needs
+bad-window-of-requires : tie.Need-bad-window-of-requires
+bad-window-of-requires c κs = search needs
 
 windowed-requires : tie.Need-windowed-requires
 windowed-requires c κs = search needs
@@ -24,7 +24,7 @@ refusal-of-requires c κs = search needs
 
 returns : tie.Need-returns
 unfolding xyDestination
-returns c = rw (c .refusal-of .ensures, c .before .bad-start .ensures, c .before .before .before .before .windowed .ensures, c .before .before .before .before .before .window-is-bad .ensures, c .before .before .before .before .before .before .bad-xy-pitch .ensures, c .before .before .before .before .before .before .before .place-of .ensures)
+returns c = rw (c .refusal-of .ensures, c .before .bad-start .ensures, c .before .before .before .before .windowed .ensures, c .before .before .before .before .before .bad-window-of .ensures, c .before .before .before .before .before .before .bad-xy-pitch .ensures, c .before .before .before .before .before .before .before .place-of .ensures)
 
 pub xy-destination-spec : {M : Type 1} → statement M
 xy-destination-spec =
@@ -32,7 +32,7 @@ xy-destination-spec =
     (tie.spec
     place-of-requires
     bad-xy-pitch-requires
-    window-is-bad-requires
+    bad-window-of-requires
     windowed-requires
     bad-start-requires
     refusal-of-requires
