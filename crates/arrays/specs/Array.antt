@@ -3,7 +3,7 @@
 use mathlib.Core.Bool.{Bool, false, cond, not, _&&_}
 use Prim.Native.Nat.{ℕ, _+_, _*_, _/_, _%_, _^_}
 use lib.Dec.{eqb}
-use Rattle.pixel.specs.Control.{transparency, windowing, processing}
+use Rattle.control.specs.Control.{transparency, windowing, processing}
 use Rattle.address.specs.Coordinate.{xOf, yOf}
 use Rattle.address.specs.Address.{xyAddress}
 use Rattle.windows.specs.Window.{windowOf, clipped, whole}

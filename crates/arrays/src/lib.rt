@@ -27,7 +27,7 @@ pub fn part_of(op: Operation, s: Settings) -> Clipped
     let r = rectangle_of(s);
     if operation::to_xy(op) {
         let window = windows::window_of(s.wstart, s.wend);
-        return windows::clip(pixel::windowing(s.control), r, window, false);
+        return windows::clip(control::windowing(s.control), r, window, false);
     }
     Clipped {
         left: 0,
@@ -43,7 +43,7 @@ pub fn part_of(op: Operation, s: Settings) -> Clipped
 pub fn v_at(op: Operation, s: Settings, c: Clipped, v: bool) -> bool
     ensures { λ r. ⌜ r ≡ vAt op s c v ⌝ }
 {
-    if operation::to_xy(op) & (pixel::windowing(s.control) != 0) {
+    if operation::to_xy(op) & (control::windowing(s.control) != 0) {
         return c.v;
     }
     v
@@ -104,8 +104,8 @@ pub fn drawing_of(op: Operation, s: Settings, c: Clipped) -> Drawing
     let source = operation::source_of(op);
     let dest = dest_start(op, s, c);
     let src = src_start(op, s, c);
-    let pp = pixel::processing(s.control);
-    let t = pixel::transparency(s.control);
+    let pp = control::processing(s.control);
+    let t = control::transparency(s.control);
     Drawing {
         cols: c.cols,
         rows: c.rows,

@@ -19,8 +19,9 @@ use Rattle.segments.proofs.SegmentLaws.{clash-comm}
 use Rattle.cache.specs.declared.Cache.{Cache}
 use Rattle.cache.specs.declared.Fetched.{Fetched}
 use Rattle.cache.specs.declared.Kind.the-variants.{Hit, SubsegmentMiss, SegmentMiss, Disabled, Refused}
+use Rattle.control.specs.Control.{disabled}
 use Rattle.cache.specs.Cache.{badState, fetchRefusal, startAddress, subsegmentOf, withSegment, noFlags, withFlag, segmentAt, hit}
-use Rattle.cache.specs.Cache.{subsegmentMiss, segmentMiss, matched, lookup, disabled, fetched, fetchAnswer}
+use Rattle.cache.specs.Cache.{subsegmentMiss, segmentMiss, matched, lookup, fetched, fetchAnswer}
 
 -- what holds of a state that is not refused
 pub record Accepted (c : Cache) : Type 0 where

@@ -4,8 +4,8 @@
 use mathlib.Core.Bool.{Bool, true, false, cond, _||_}
 use mathlib.Core.List.{[], _∷_}
 use Prim.Native.Nat.{ℕ, _/_, _%_, _^_}
-use lib.Dec.{eqb}
 use lib.ListN.{getD, set, replicate}
+use Rattle.control.specs.Control.{disabled}
 use Rattle.lists.specs.Search.{any, first, anyPair}
 use Rattle.segments.specs.declared.Segment.{Segment}
 use Rattle.order.specs.Order.{badOrder}
@@ -85,10 +85,6 @@ lookup c start sub =
     cond (any (matches start) (c .segments))
     (matched c (first (matches start) (c .segments)) sub)
     (segmentMiss c start sub)
-
--- CD is CONTROL bit 15
-abbrev pub disabled : ℕ → Bool
-disabled control = eqb (control / 2 ^ 15 % 2) 1
 
 -- with CD 1 every fetch reports disabled and the state stays; a refused state is refused also with
 -- CD 1, and stays

@@ -5,7 +5,7 @@ ghost use mathlib.Core.Path.{_≡_};
 ghost use mathlib.Core.Bool.{false};
 ghost use Prim.Native.Nat.{_<_};
 ghost use Rattle.segments.specs.Segments.{segmentCount, flagCount};
-ghost use Rattle.cache.specs.Cache.{badState, fetchRefusal, withSegment, lookup, disabled};
+ghost use Rattle.cache.specs.Cache.{badState, fetchRefusal, withSegment, lookup};
 ghost use Rattle.cache.specs.Cache.{fetched, freshCache, fetchAnswer};
 use segments::FLAGS;
 use segments::SEGMENTS;
@@ -65,7 +65,7 @@ impl Cache {
             × (fetchAnswer (r .kind) ≡ fetchRefusal self) ⌝ }
     {
         let bad = self.is_bad_state();
-        let disabled = is_disabled(control);
+        let disabled = control::disabled(control);
         if bad {
             return Fetched {
                 kind: Kind::Refused,
@@ -150,11 +150,4 @@ impl Cache {
             | segments::any_too_high(segments)
             | segments::any_clash(segments)
     }
-}
-
-// Is CD, bit 15 of CONTROL, 1?
-fn is_disabled(control: u16) -> bool
-    ensures { λ r. ⌜ r ≡ disabled control ⌝ }
-{
-    control / 32768 % 2 == 1
 }

@@ -4,7 +4,7 @@ use mathlib.Core.List.{List}
 use Prim.Native.Nat.{ℕ, _+_, _*_, _%_, _^_}
 use lib.Dec.{eqb}
 use lib.ListN.{length}
-use Rattle.pixel.specs.Control.{windowing}
+use Rattle.control.specs.Control.{windowing}
 use Rattle.address.specs.Coordinate.{registerOf}
 use Rattle.windows.specs.Window.{windowOf, common}
 use Rattle.windows.specs.declared.Rectangle.{Rectangle}

@@ -119,7 +119,7 @@ fn outcome_at(
     let answer = answer_at(d, place);
     let saddr = saddr_after(op, s, d, place);
     let daddr = daddr_after(s, d, place);
-    if (pixel::windowing(s.control) == 1) & c.request {
+    if (control::windowing(s.control) == 1) & c.request {
         let r = common_rectangle(s);
         let found = address::register_of(r.x, r.y);
         let size = (r.rows as u32) * 65536 + r.cols as u32;

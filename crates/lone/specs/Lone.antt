@@ -3,7 +3,7 @@
 use mathlib.Core.Bool.{Bool, true, false, cond, not, _&&_, _||_}
 use Prim.Native.Nat.{ℕ, _*_}
 use lib.Dec.{eqb, leb}
-use Rattle.pixel.specs.Control.{windowing}
+use Rattle.control.specs.Control.{windowing}
 use Rattle.address.specs.Coordinate.{xOf, yOf, negative}
 use Rattle.address.specs.Address.{xyAddress, badXYPitch, misaligned}
 use Rattle.windows.specs.Window.{windowOf, clipped}

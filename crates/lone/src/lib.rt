@@ -129,7 +129,7 @@ fn windowed(s: Settings, xy: u32, v: bool) -> Clipped
         rows: 1,
     };
     windows::clip(
-        pixel::windowing(s.control),
+        control::windowing(s.control),
         pixel,
         windows::window_of(s.wstart, s.wend),
         v,

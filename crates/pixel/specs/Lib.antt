@@ -1,4 +1,3 @@
-pub mod Control
 pub mod PixelOp
 pub mod Pixel
 pub mod Footprint

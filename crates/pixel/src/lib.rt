@@ -1,8 +1,6 @@
-// The settings that decide a pixel, and the pixel of a word. A pixel of P bits is given by top, the
-// greatest of them, and its place in a word by its bit address. No public function asks anything of
-// its arguments.
+// The pixel size, and the pixel of a word. A pixel of P bits is given by top, the greatest of them,
+// and its place in a word by its bit address. No public function asks anything of its arguments.
 ghost use mathlib.Core.Path.{_≡_};
-ghost use Rattle.pixel.specs.Control.{transparency, windowing, processing, badControl};
 ghost use Rattle.pixel.specs.Pixel.{badPixelSize, topOf, pixelOf};
 
 // Refusal 11: is this no pixel size?
@@ -21,34 +19,6 @@ pub fn top_of(psize: u16) -> u16
     } else {
         65535
     }
-}
-
-// T of CONTROL.
-pub fn transparency(control: u16) -> bool
-    ensures { λ r. ⌜ r ≡ transparency control ⌝ }
-{
-    control / 32 % 2 == 1
-}
-
-// W of CONTROL.
-pub fn windowing(control: u16) -> u16
-    ensures { λ r. ⌜ r ≡ windowing control ⌝ }
-{
-    control / 64 % 4
-}
-
-// PP of CONTROL.
-pub fn processing(control: u16) -> u16
-    ensures { λ r. ⌜ r ≡ processing control ⌝ }
-{
-    control / 1024 % 32
-}
-
-// Refusal 12: is PP above 21, or PBH or PBV 1?
-pub fn bad_control(control: u16) -> bool
-    ensures { λ r. ⌜ r ≡ badControl control ⌝ }
-{
-    (21 < processing(control)) | ((control / 256 % 2 == 1) | (control / 512 % 2 == 1))
 }
 
 // The pixel of a word at an address.

@@ -10,7 +10,7 @@ use lib.Bits.{bitAnd, and-mask}
 use lib.Dec.{eqb}
 use lib.Pow.{field, shl-shr, mod-mod-pow}
 use Rattle.memory.proofs.Tests.{or-false-right}
-use Rattle.pixel.specs.Control.{transparency, processing}
+use Rattle.control.specs.Control.{transparency, processing}
 use Rattle.pixel.specs.Pixel.{badPixelSize, topOf, pixelOf, plotted}
 use Rattle.pixel.proofs.SizeLaws.{size-le, aligned-fits, topOf-ones}
 use Rattle.pixel.proofs.PixelLaws.{pixelOf-mod}

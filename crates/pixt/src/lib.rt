@@ -73,8 +73,8 @@ pub fn draw(memory: &mut [u16], s: Settings, l: Lone, color: u16)
         ⌜ now (memory .exit) ≡ drawnAt s l source (now (memory .entry)) ⌝ }
 {
     if (l.answer == 0) & l.some {
-        let pp = pixel::processing(s.control);
-        let t = pixel::transparency(s.control);
+        let pp = control::processing(s.control);
+        let t = control::transparency(s.control);
         let d = Drawing {
             cols: 1,
             rows: 1,

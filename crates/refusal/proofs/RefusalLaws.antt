@@ -5,7 +5,7 @@ use mathlib.Core.Bool.{Bool, true, false, cond}
 use Prim.Native.Nat.{ℕ, _≤_}
 use native.Mathlib.Omega.{arith}
 use Rattle.memory.specs.Bits.{noMemory}
-use Rattle.pixel.specs.Control.{badControl}
+use Rattle.control.specs.Control.{badControl}
 use Rattle.pixel.specs.Pixel.{badPixelSize}
 use Rattle.settings.specs.declared.Settings.{Settings}
 use Rattle.refusal.specs.declared.Tests.{Tests}

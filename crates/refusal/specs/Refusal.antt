@@ -4,7 +4,7 @@
 use mathlib.Core.Bool.{Bool, cond, _&&_}
 use Prim.Native.Nat.{ℕ}
 use Rattle.memory.specs.Bits.{noMemory}
-use Rattle.pixel.specs.Control.{windowing, badControl}
+use Rattle.control.specs.Control.{windowing, badControl}
 use Rattle.pixel.specs.Pixel.{badPixelSize}
 use Rattle.windows.specs.Window.{windowOf, badWindowing}
 use Rattle.settings.specs.declared.Settings.{Settings}

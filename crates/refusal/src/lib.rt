@@ -20,7 +20,7 @@ pub fn lowest(words: usize, s: Settings, t: Tests) -> u32
 {
     let memory = memory::no_memory(words);
     let size = pixel::bad_pixel_size(s.psize);
-    let control = pixel::bad_control(s.control);
+    let control = control::bad_control(s.control);
     table(memory, size, control, t)
 }
 
@@ -56,7 +56,7 @@ fn table(memory: bool, size: bool, control: bool, t: Tests) -> u32
 pub fn bad_window_of(xy: bool, s: Settings) -> bool
     ensures { λ r. ⌜ r ≡ badWindowOf xy s ⌝ }
 {
-    let w = pixel::windowing(s.control);
+    let w = control::windowing(s.control);
     let bad = windows::bad_windowing(w, windows::window_of(s.wstart, s.wend));
     xy & bad
 }

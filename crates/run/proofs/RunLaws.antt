@@ -10,7 +10,7 @@ use lib.ListN.{length, drop-of-length-le}
 use Rattle.memory.specs.Bits.{noMemory}
 use Rattle.memory.specs.Changed.{changedBits, counted}
 use Rattle.memory.proofs.ChangedLaws.{changedBits-same}
-use Rattle.pixel.specs.Control.{windowing}
+use Rattle.control.specs.Control.{windowing}
 use Rattle.windows.specs.Window.{windowOf}
 use Rattle.windows.specs.Window.{whole as whole·rectangle}
 use Rattle.windows.specs.declared.Clipped.{Clipped}

@@ -5,10 +5,11 @@ use mathlib.Core.Bool.{Bool, true, false, cond}
 use Prim.Native.Nat.{ℕ, _^_, _<_}
 use native.Mathlib.Omega.{arith}
 use Rattle.lists.specs.Search.{any, anyPair}
+use Rattle.control.specs.Control.{disabled}
 use Rattle.cache.specs.declared.Cache.{Cache}
 use Rattle.cache.specs.declared.Kind.{Kind}
 use Rattle.cache.specs.declared.Kind.the-variants.{Hit, SubsegmentMiss, SegmentMiss, Disabled, Refused}
-use Rattle.cache.specs.Cache.{badState, fetchRefusal, disabled, fetched, freshCache, fetchAnswer}
+use Rattle.cache.specs.Cache.{badState, fetchRefusal, fetched, freshCache, fetchAnswer}
 use Rattle.cache.proofs.CacheLaws.{accepted, not-refused, fetched-disabled, fetched-lookup, lookup-accepted, answer-refusal}
 
 pub fresh-accepted : badState freshCache ≡ false

@@ -7,7 +7,7 @@ use native.Mathlib.Decide.{ℕ-discrete, decLt}
 use native.Mathlib.Omega.{arith}
 use borrow.Author.Tests.{ne-eqb, eqb-true, eqb-false, not-true}
 use lib.Dec.{eqb}
-use Rattle.pixel.specs.Control.{windowing}
+use Rattle.control.specs.Control.{windowing}
 use Rattle.windows.specs.Kept.{Pixel, Seen}
 use Rattle.windows.specs.Window.{windowOf, empty, inside, common, meet, nothing, whole, clipped}
 use Rattle.windows.specs.Window as window

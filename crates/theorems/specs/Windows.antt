@@ -4,7 +4,7 @@ use mathlib.Core.Path.{_≡_}
 use mathlib.Core.Bool.{Bool, true, false, cond}
 use mathlib.Core.Logic.{_↔_}
 use Prim.Native.Nat.{ℕ}
-use Rattle.pixel.specs.Control.{windowing}
+use Rattle.control.specs.Control.{windowing}
 use Rattle.windows.specs.Window.{windowOf, empty, meet, inside, clipped}
 use Rattle.windows.specs.Kept.{Pixel, Seen, kept}
 use Rattle.windows.specs.declared.Rectangle.{Rectangle}

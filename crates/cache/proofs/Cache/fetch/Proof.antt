@@ -15,7 +15,7 @@ returns-2 : tie.Need-returns-2
 returns-2 c =
     let tested = c .before .before in
     let good = sym (tested .before .is-bad-state .ensures) ∙ c .before .if1 .left in
-    let off = sym (tested .is-disabled .ensures) ∙ c .if2 .taken in
+    let off = sym (tested .disabled .ensures) ∙ c .if2 .taken in
     fetched-answer _ _ _ (sym (fetched-disabled _ _ _ good off))
 
 looked-up-requires : tie.Need-looked-up-requires
@@ -28,7 +28,7 @@ returns-3 c =
     let enabled = c .before in
     let tested = enabled .before .before in
     let good = sym (tested .before .is-bad-state .ensures) ∙ enabled .before .if1 .left in
-    let on = sym (tested .is-disabled .ensures) ∙ enabled .if2 .left in
+    let on = sym (tested .disabled .ensures) ∙ enabled .if2 .left in
     fetched-answer _ _ _ (c .looked-up .ensures ∙ sym (fetched-lookup _ _ _ good on))
 
 pub fetch-spec : {M : Type 1} → statement M
