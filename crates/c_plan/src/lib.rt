@@ -8,8 +8,8 @@ ghost use Rattle.c_plan.specs.Plan.{planResultCount, planResults, PlanRe
 use c_arrays::BAD_CALL;
 use plan::Plan;
 
-// The room for 8 axes of 64 values, each with its name and its length (`room` of plan's specs).
-pub const TABLE: usize = 528;
+// The numbers of a table with room for every plan's axes (`room` of plan's specs).
+const ROOM: usize = 528;
 
 // How many results of reading there are (`planResultCount` of the specs).
 pub const PLAN_RESULTS: usize = 5;
@@ -20,7 +20,7 @@ pub fn read(text: &[u8], table: &mut [u64], out: &mut [u64]) -> u32
     ensures { λ r. ⌜ PlanReadCall (now (text .entry)) (now (table .entry)) (now (out .entry))
         r (now (table .exit)) (now (out .exit)) ⌝ }
 {
-    if (table.len() < TABLE) | (out.len() < PLAN_RESULTS) {
+    if (table.len() < ROOM) | (out.len() < PLAN_RESULTS) {
         return BAD_CALL;
     }
     let plan = plan::read(text, table);
