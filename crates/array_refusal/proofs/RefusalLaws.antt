@@ -1,11 +1,10 @@
--- The refusals of a FILL or PIXBLT call: what one that is not refused has passed, and other places. No contract cites this file. Assumes nothing.
-use mathlib.Core.Path.{_≡_, sym, ap, _∙_}
-use mathlib.Core.Bool.{Bool}
+-- The refusals of a FILL or PIXBLT call: what one that is not refused has passed, and other places. No contract cites this file.
+-- Assumes nothing.
+use mathlib.Core.Path.{_≡_, sym}
 use Prim.Native.Nat.{ℕ, _≤_}
 use borrow.Author.Tests.{ltb-false, le-ltb}
 use Rattle.settings.specs.declared.Settings.{Settings}
 use Rattle.refusal.specs.declared.Tests.{Tests}
-use Rattle.refusal.specs.Refusal.{lowest}
 use Rattle.refusal.proofs.RefusalLaws as table
 use Rattle.plot.specs.Drawing.{pixels}
 use Rattle.operation.specs.declared.Operation.{Operation}

@@ -1,12 +1,11 @@
 -- The arrays of a drawing after the window (the scope, "Arrays, windows and slices"): what is drawn, and where both walks start.
 -- Assumes nothing.
-use mathlib.Core.Bool.{Bool, false, cond, not, _&&_}
+use mathlib.Core.Bool.{Bool, cond}
 use Prim.Native.Nat.{ℕ, _+_, _*_, _/_, _%_, _^_}
-use lib.Dec.{eqb}
 use Rattle.control.specs.Control.{transparency, windowing, processing}
 use Rattle.address.specs.Coordinate.{xOf, yOf}
 use Rattle.address.specs.Address.{xyAddress}
-use Rattle.windows.specs.Window.{windowOf, clipped, whole}
+use Rattle.windows.specs.Window.{windowOf, clipped, vUnder, whole}
 use Rattle.windows.specs.declared.Rectangle.{Rectangle}
 use Rattle.windows.specs.declared.Clipped.{Clipped}
 use Rattle.settings.specs.declared.Settings.{Settings}
@@ -19,19 +18,19 @@ use Rattle.operation.specs.Operation.{toXY, fromXY, sourceOf}
 abbrev pub rectangleOf : Settings → Rectangle
 rectangleOf s = record { x = xOf (s .daddr); y = yOf (s .daddr); cols = s .dydx % 2 ^ 16; rows = s .dydx / 2 ^ 16 }
 
--- what of it is drawn, with request, and V if V was 0; linear destinations ignore W
+-- what of it is drawn, with the request; linear destinations ignore W
 unfoldable pub part : Operation → Settings → Clipped
 part op s =
     cond (toXY op)
-    (clipped (windowing (s .control)) (rectangleOf s) (windowOf (s .wstart) (s .wend)) false)
-    (whole (rectangleOf s) false)
+    (clipped (windowing (s .control)) (rectangleOf s) (windowOf (s .wstart) (s .wend)))
+    (whole (rectangleOf s))
 
--- V after the call: with W 0 it stays as given, and linear destinations keep it; otherwise the window decides
-abbrev pub vAt : Operation → Settings → Clipped → Bool → Bool
-vAt op s c v = cond (toXY op && not (eqb (windowing (s .control)) 0)) (c .v) v
-
+-- V after the call; linear destinations keep it
 unfoldable pub vAfter : Operation → Settings → Bool → Bool
-vAfter op s v = vAt op s (part op s) v
+vAfter op s v =
+    cond (toXY op)
+    (vUnder (windowing (s .control)) (rectangleOf s) (windowOf (s .wstart) (s .wend)) v)
+    v
 
 -- the XY start of an array after clipping, which moves it by the columns and rows skipped, unwrapped
 abbrev pub startX : ℕ → Clipped → ℕ

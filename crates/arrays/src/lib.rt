@@ -1,7 +1,7 @@
 // The arrays of a drawing after the window: what is drawn, and where both walks start.
 ghost use mathlib.Core.Path.{_≡_};
 ghost use Prim.Native.Nat.{_+_, _*_, _%_, _^_};
-ghost use Rattle.arrays.specs.Array.{rectangleOf, part, vAt, startX, startY, destStart, srcStart, drawingOf};
+ghost use Rattle.arrays.specs.Array.{rectangleOf, part, vAfter, startX, startY, destStart, srcStart, drawingOf};
 use operation::Operation;
 use plot::Drawing;
 use settings::Settings;
@@ -27,24 +27,25 @@ pub fn part_of(op: Operation, s: Settings) -> Clipped
     let r = rectangle_of(s);
     if operation::to_xy(op) {
         let window = windows::window_of(s.wstart, s.wend);
-        return windows::clip(control::windowing(s.control), r, window, false);
+        return windows::clip(control::windowing(s.control), r, window);
     }
     Clipped {
         left: 0,
         above: 0,
         cols: r.cols,
         rows: r.rows,
-        v: false,
         request: false,
     }
 }
 
-// V after the call, by what is drawn.
-pub fn v_at(op: Operation, s: Settings, c: Clipped, v: bool) -> bool
-    ensures { λ r. ⌜ r ≡ vAt op s c v ⌝ }
+// V after the call.
+pub fn v_after(op: Operation, s: Settings, v: bool) -> bool
+    ensures { λ r. ⌜ r ≡ vAfter op s v ⌝ }
 {
-    if operation::to_xy(op) & (control::windowing(s.control) != 0) {
-        return c.v;
+    if operation::to_xy(op) {
+        let r = rectangle_of(s);
+        let window = windows::window_of(s.wstart, s.wend);
+        return windows::v_under(control::windowing(s.control), r, window, v);
     }
     v
 }

@@ -166,7 +166,7 @@ pub fn draw(
         return refused(s, place, v, answer);
     }
     let visited = engine::run(memory, d, place, budget);
-    let after = arrays::v_at(op, s, c, v);
+    let after = arrays::v_after(op, s, v);
     let next = place_after(d, place, visited);
     outcome_at(op, s, c, d, after, next, visited)
 }

@@ -9,7 +9,7 @@ use Rattle.cache.specs.Cache.{badState, latest, lookup, fetched}
 use Rattle.pixel.specs.PixelOp.{operations, processed}
 use Rattle.pixel.specs.Pixel.{pixelOf, result, pixelAfter, withPixel, wordAfter}
 use Rattle.address.specs.Address.{xyAddress, badXYPitch}
-use Rattle.windows.specs.Window.{common, clipped}
+use Rattle.windows.specs.Window.{common, clipped, vUnder}
 use Rattle.walk.specs.Walk.{addressOf, reaches, leavesMemory}
 use Rattle.refusal.specs.Refusal.{lowest}
 use Rattle.lone.specs.Lone.{xyDestination}
@@ -25,7 +25,7 @@ use Rattle.figures.specs.Figures.{Figures}
 pub figures : Figures
 unfolding bitOf bitAt number refusal register fieldRead caseOf stepped any first anyPair badState latest lookup fetched operations
     processed pixelOf result pixelAfter withPixel wordAfter xyAddress badXYPitch common clipped addressOf reaches leavesMemory
-    lowest xyDestination dravOf part vAfter destStart srcStart drawingOf refusalOf drawing.refusal outcomeAt outcome count
+    lowest xyDestination dravOf part vAfter vUnder destStart srcStart drawingOf refusalOf drawing.refusal outcomeAt outcome count
     indices
 figures =
     record {
@@ -41,6 +41,7 @@ figures =
       masked-transparent = refl;
       start = refl;
       clip = refl;
+      clip-v = λ v. refl;
       clip-start = refl;
       clip-enough = refl;
       clip-short = refl;

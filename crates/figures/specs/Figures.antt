@@ -1,7 +1,7 @@
 -- The scope's "Figures at the edge" that are marked P: one table, with one proof. The definitions
 -- are those that contracts cite. Assumes nothing.
 use mathlib.Core.Path.{_≡_}
-use mathlib.Core.Bool.{true, false}
+use mathlib.Core.Bool.{Bool, true, false}
 use mathlib.Core.List.{List, [], _∷_}
 use Prim.Native.Nat.{ℕ, _%_}
 use Rattle.field.specs.Field.{fieldRead}
@@ -16,7 +16,7 @@ use Rattle.pixel.specs.PixelOp.{processed}
 use Rattle.pixel.specs.Pixel.{topOf, wordAfter}
 use Rattle.address.specs.Coordinate.{xOf, yOf}
 use Rattle.address.specs.Address.{xyAddress}
-use Rattle.windows.specs.Window.{windowOf, clipped}
+use Rattle.windows.specs.Window.{windowOf, clipped, vUnder}
 use Rattle.windows.specs.Kept.{kept}
 use Rattle.walk.specs.Walk.{leavesMemory}
 use Rattle.windows.specs.declared.Rectangle.{Rectangle}
@@ -48,7 +48,7 @@ abbrev pub array : Rectangle
 array = record { x = xOf 0x004400E4; y = yOf 0x004400E4; cols = 0x3C; rows = 0x14 }
 
 abbrev pub clippedArray : Clipped
-clippedArray = clipped 3 array (windowOf 0x004900EB 0x005F0140) false
+clippedArray = clipped 3 array (windowOf 0x004900EB 0x005F0140)
 
 -- W=3, a window from 0,0 to 15,15, PSIZE 4, pitch 64
 abbrev pub windowed : Settings
@@ -109,7 +109,8 @@ pub record Figures : Type 0 where
   -- the same with the window, W=3: 53 by 15, start 24BACh, V=1; 11,208 words
   -- are enough, 11,207 are not
   pub clip : clippedArray
-      ≡ record { left = 7; above = 5; cols = 53; rows = 15; v = true; request = false }
+      ≡ record { left = 7; above = 5; cols = 53; rows = 15; request = false }
+  pub clip-v : (v : Bool) → vUnder 3 array (windowOf 0x004900EB 0x005F0140) v ≡ true
   pub clip-start : xyAddress 0 0x800 4 (kept array clippedArray .x) (kept array clippedArray .y)
       ≡ 0x24BAC
   pub clip-enough : leavesMemory 11208 0x24BAC 53 15 0x800 4 ≡ false

@@ -1,12 +1,13 @@
 -- A lone pixel (the scope, "Refusal numbers" and "Arrays, windows and slices"): whether PIXT or DRAV is refused, whether there is a
 -- pixel to draw or read, where it is, and the flags. Assumes nothing.
-use mathlib.Core.Bool.{Bool, true, false, cond, not, _&&_, _||_}
+use mathlib.Core.Bool.{Bool, true, false, not, _&&_, _||_}
 use Prim.Native.Nat.{ℕ, _*_}
 use lib.Dec.{eqb, leb}
 use Rattle.control.specs.Control.{windowing}
 use Rattle.address.specs.Coordinate.{xOf, yOf, negative}
 use Rattle.address.specs.Address.{xyAddress, badXYPitch, misaligned}
-use Rattle.windows.specs.Window.{windowOf, clipped}
+use Rattle.windows.specs.Window.{windowOf, clipped, vUnder}
+use Rattle.windows.specs.declared.Rectangle.{Rectangle}
 use Rattle.windows.specs.declared.Clipped.{Clipped}
 use Rattle.settings.specs.declared.Settings.{Settings}
 use Rattle.refusal.specs.declared.Tests.{Tests}
@@ -55,8 +56,16 @@ xySource words s xy v =
     }
 
 -- for the window one pixel is a 1 by 1 rectangle
-abbrev pub windowed : Settings → ℕ → Bool → Clipped
-windowed s xy v = clipped (windowing (s .control)) (record { x = xOf xy; y = yOf xy; cols = 1; rows = 1 }) (windowOf (s .wstart) (s .wend)) v
+abbrev pub rectangleAt : ℕ → Rectangle
+rectangleAt xy = record { x = xOf xy; y = yOf xy; cols = 1; rows = 1 }
+
+abbrev pub windowed : Settings → ℕ → Clipped
+windowed s xy =
+    clipped (windowing (s .control)) (rectangleAt xy) (windowOf (s .wstart) (s .wend))
+
+abbrev pub vAfter : Settings → ℕ → Bool → Bool
+vAfter s xy v =
+    vUnder (windowing (s .control)) (rectangleAt xy) (windowOf (s .wstart) (s .wend)) v
 
 -- the window lets the pixel be drawn
 abbrev pub shown : Clipped → Bool
@@ -67,10 +76,10 @@ unfoldable pub xyDestination : ℕ → Settings → ℕ → Bool → Lone
 xyDestination words s xy v =
     record {
       answer =
-          refusal words s (badXYPitch (s .dptch)) (badWindowOf true s) (shown (windowed s xy v))
+          refusal words s (badXYPitch (s .dptch)) (badWindowOf true s) (shown (windowed s xy))
           (badStart s xy) (placeOf s xy);
-      some = shown (windowed s xy v);
+      some = shown (windowed s xy);
       address = placeOf s xy;
-      v = windowed s xy v .v;
-      request = windowed s xy v .request;
+      v = vAfter s xy v;
+      request = windowed s xy .request;
     }

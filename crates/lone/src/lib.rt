@@ -2,7 +2,7 @@
 ghost use mathlib.Core.Path.{_≡_};
 ghost use Prim.Native.Nat.{_*_};
 ghost use lib.Dec.{leb};
-ghost use Rattle.lone.specs.Lone.{badStart, placeOf, windowed, refusal};
+ghost use Rattle.lone.specs.Lone.{badStart, placeOf, rectangleAt, windowed, vAfter, refusal};
 ghost use Rattle.lone.specs.Lone.{linearPixel, xySource, xyDestination};
 use refusal::Tests;
 use settings::Settings;
@@ -54,7 +54,8 @@ pub fn xy_destination(words: usize, s: Settings, xy: u32, v: bool) -> Lone
     let address = place_of(s, xy);
     let pitch = address::bad_xy_pitch(s.dptch);
     let window = refusal::bad_window_of(true, s);
-    let c = windowed(s, xy, v);
+    let c = windowed(s, xy);
+    let after = v_after(s, xy, v);
     let some = !((c.cols == 0) | (c.rows == 0));
     let start = bad_start(s, xy, address);
     let answer = refusal_of(words, s, pitch, window, some, start, address);
@@ -62,7 +63,7 @@ pub fn xy_destination(words: usize, s: Settings, xy: u32, v: bool) -> Lone
         answer,
         some,
         address,
-        v: c.v,
+        v: after,
         request: c.request,
     }
 }
@@ -119,18 +120,36 @@ fn bad_start(s: Settings, xy: u32, address: u32) -> bool
         | (address::negative(address::y_of(xy) as u32) | address::misaligned(s.psize, address))
 }
 
-fn windowed(s: Settings, xy: u32, v: bool) -> Clipped
-    ensures { λ r. ⌜ r ≡ windowed s xy v ⌝ }
+// The 1 by 1 rectangle that one pixel is for the window.
+fn rectangle_at(xy: u32) -> Rectangle
+    ensures { λ r. ⌜ r ≡ rectangleAt xy ⌝ }
 {
-    let pixel = Rectangle {
+    Rectangle {
         x: address::x_of(xy),
         y: address::y_of(xy),
         cols: 1,
         rows: 1,
-    };
+    }
+}
+
+// What the window lets be drawn of it.
+fn windowed(s: Settings, xy: u32) -> Clipped
+    ensures { λ r. ⌜ r ≡ windowed s xy ⌝ }
+{
     windows::clip(
         control::windowing(s.control),
-        pixel,
+        rectangle_at(xy),
+        windows::window_of(s.wstart, s.wend),
+    )
+}
+
+// V after the call.
+fn v_after(s: Settings, xy: u32, v: bool) -> bool
+    ensures { λ r. ⌜ r ≡ vAfter s xy v ⌝ }
+{
+    windows::v_under(
+        control::windowing(s.control),
+        rectangle_at(xy),
         windows::window_of(s.wstart, s.wend),
         v,
     )

@@ -6,7 +6,7 @@ use Rattle.image.specs.Image.{stepped}
 use Rattle.pixel.specs.PixelOp.{operations, processed}
 use Rattle.pixel.specs.Pixel.{pixelOf, result, pixelAfter, withPixel, wordAfter, plotted}
 use Rattle.address.specs.Address.{xyAddress, badXYPitch}
-use Rattle.windows.specs.Window.{common, clipped}
+use Rattle.windows.specs.Window.{common, clipped, vUnder}
 use Rattle.walk.specs.Walk.{addressOf, reaches, leavesMemory}
 use Rattle.settings.specs.Settings.{settingsOf}
 use Rattle.row.specs.Row.{sourceAt, drawnAt}
@@ -23,5 +23,5 @@ use Rattle.run.specs.Lines.{pointLines}
 use Rattle.run.specs.Example.{Example}
 
 pub example : Example
-unfolding bitOf bitAt differing changedBits stepped operations processed pixelOf result pixelAfter withPixel wordAfter plotted xyAddress badXYPitch common clipped addressOf reaches leavesMemory settingsOf sourceAt drawnAt visits part vAfter destStart srcStart drawingOf lowest refusalOf refusal outcomeAt outcome drawn count indices assigned experiment digits numbersLine ranOver pointLine pointLines
+unfolding bitOf bitAt differing changedBits stepped operations processed pixelOf result pixelAfter withPixel wordAfter plotted xyAddress badXYPitch common clipped addressOf reaches leavesMemory settingsOf sourceAt drawnAt visits part vAfter vUnder destStart srcStart drawingOf lowest refusalOf refusal outcomeAt outcome drawn count indices assigned experiment digits numbersLine ranOver pointLine pointLines
 example = refl

@@ -47,10 +47,10 @@ ranOver-refused op s m h = rw (ne-eqb _ _ h, changedBits-same m)
 -- an array's columns and rows are at most DX and DY
 cols-rows-le : (op : Operation) (s : Settings) → (part op s .cols ≤ s .dydx % 2 ^ 16) × (part op s .rows ≤ s .dydx / 2 ^ 16)
 unfolding part
-cols-rows-le op s = go (toXY op) _ (clipped-fits (windowing (s .control)) (rectangleOf s) (windowOf (s .wstart) (s .wend)) false)
+cols-rows-le op s = go (toXY op) _ (clipped-fits (windowing (s .control)) (rectangleOf s) (windowOf (s .wstart) (s .wend)))
   where
     go : (t : Bool) (c : Clipped) → Fits (rectangleOf s) c
-        → (cond t c (whole·rectangle (rectangleOf s) false) .cols ≤ s .dydx % 2 ^ 16) × (cond t c (whole·rectangle (rectangleOf s) false) .rows ≤ s .dydx / 2 ^ 16)
+        → (cond t c (whole·rectangle (rectangleOf s)) .cols ≤ s .dydx % 2 ^ 16) × (cond t c (whole·rectangle (rectangleOf s)) .rows ≤ s .dydx / 2 ^ 16)
     go true c f = (f .cols, f .rows)
     go false c f = (omega arith, omega arith)
 

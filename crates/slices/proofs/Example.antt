@@ -10,7 +10,7 @@ use Rattle.memory.specs.Bits.{Memory}
 use Rattle.pixel.specs.PixelOp.{operations, processed}
 use Rattle.pixel.specs.Pixel.{pixelOf, result, pixelAfter, withPixel, wordAfter, plotted}
 use Rattle.address.specs.Address.{xyAddress, badXYPitch}
-use Rattle.windows.specs.Window.{common, clipped}
+use Rattle.windows.specs.Window.{common, clipped, vUnder}
 use Rattle.walk.specs.Walk.{addressOf, reaches, leavesMemory}
 use Rattle.row.specs.Row.{sourceAt, drawnAt}
 use Rattle.engine.specs.Engine.{visits}
@@ -120,8 +120,8 @@ computed : (afterCalls fill copy false true m cs .memory ≡ 49151 ∷ 10 ∷ 17
     ≡ record { answer = 0; place = 3; v = true; request = false; saddr = 0; daddr = 16; dydx = 65540; settings = fill .settings })
     × (afterCalls fill copy false true m cs .held 1
     ≡ record { answer = 0; place = 2; v = true; request = false; saddr = 48; daddr = 28; dydx = 65538; settings = copy .settings })
-unfolding run next outcome outcomeAt drawn refusal refusalOf lowest vAfter drawingOf part destStart srcStart clipped common xyAddress
-    badXYPitch leavesMemory reaches addressOf visits drawnAt sourceAt plotted wordAfter withPixel pixelAfter result processed
+unfolding run next outcome outcomeAt drawn refusal refusalOf lowest vAfter vUnder drawingOf part destStart srcStart clipped
+    common xyAddress badXYPitch leavesMemory reaches addressOf visits drawnAt sourceAt plotted wordAfter withPixel pixelAfter result processed
     operations pixelOf
 computed = (refl, refl, refl)
 

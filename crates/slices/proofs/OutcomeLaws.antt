@@ -2,32 +2,35 @@
 -- this file. Assumes nothing.
 use mathlib.Core.Path.{_≡_, refl}
 use mathlib.Core.Logic.{_≢_, by-cases}
-use mathlib.Core.Bool.{Bool, true, false, cond, not, _&&_}
+use mathlib.Core.Bool.{Bool, true, false, cond}
 use mathlib.Core.List.{List}
-use Prim.Native.Nat.{ℕ, _+_, _≤_}
+use Prim.Native.Nat.{ℕ, _+_}
 use native.Mathlib.Decide.{ℕ-discrete}
 use native.Mathlib.Omega.{arith}
 use borrow.Author.Tests.{eq-eqb, ne-eqb}
-use lib.Dec.{eqb}
 use lib.ListN.{length}
 use Rattle.control.specs.Control.{windowing}
+use Rattle.windows.specs.Window.{windowOf, vUnder}
+use Rattle.windows.proofs.WindowLaws.{vUnder-twice}
 use Rattle.settings.specs.declared.Settings.{Settings}
-use Rattle.plot.specs.Drawing.{pixels}
 use Rattle.engine.specs.Engine.{visits}
 use Rattle.operation.specs.declared.Operation.{Operation}
 use Rattle.drawing.specs.declared.Outcome.{Outcome}
 use Rattle.operation.specs.Operation.{toXY}
-use Rattle.arrays.specs.Array.{part, vAfter, drawingFor}
+use Rattle.arrays.specs.Array.{rectangleOf, part, vAfter, drawingFor}
 use Rattle.array_refusal.specs.Refusal.{refusal}
 use Rattle.drawing.specs.Draw.{refused, outcomeAt, visitedBy, outcome, drawn}
 
 -- ---- V is worked out anew, or stays
 pub vAfter-twice : (op : Operation) (s : Settings) (v : Bool) → vAfter op s (vAfter op s v) ≡ vAfter op s v
 unfolding vAfter
-vAfter-twice op s v = go (toXY op && not (eqb (windowing (s .control)) 0))
+vAfter-twice op s v = go (toXY op)
   where
-    go : (t : Bool) → cond t (part op s .v) (cond t (part op s .v) v) ≡ cond t (part op s .v) v
-    go true = refl
+    v·under : Bool → Bool
+    v·under = vUnder (windowing (s .control)) (rectangleOf s) (windowOf (s .wstart) (s .wend))
+
+    go : (t : Bool) → cond t (v·under (cond t (v·under v) v)) (cond t (v·under v) v) ≡ cond t (v·under v) v
+    go true = vUnder-twice (windowing (s .control)) (rectangleOf s) (windowOf (s .wstart) (s .wend)) v
     go false = refl
 
 module _ (op : Operation) (s : Settings) where

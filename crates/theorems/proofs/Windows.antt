@@ -4,7 +4,7 @@ use Rattle.theorems.specs.Windows.{KeptIsSeen, SeenIsKept, MeetByPixels,
 use Rattle.theorems.proofs.SeenLaws as seen
 
 pub kept-is-seen : KeptIsSeen
-kept-is-seen w r win v nonzero a b p = (window.pixel-of-kept w r win v a b p, window.seen-of-kept w r win v nonzero a b p)
+kept-is-seen w r win nonzero a b p = (window.pixel-of-kept w r win a b p, window.seen-of-kept w r win nonzero a b p)
 
 pub seen-is-kept : SeenIsKept
 seen-is-kept = window.kept-pixel

@@ -5,7 +5,7 @@ use mathlib.Core.Bool.{Bool, true, false, cond}
 use mathlib.Core.Logic.{_↔_}
 use Prim.Native.Nat.{ℕ}
 use Rattle.control.specs.Control.{windowing}
-use Rattle.windows.specs.Window.{windowOf, empty, meet, inside, clipped}
+use Rattle.windows.specs.Window.{windowOf, empty, meet, inside, clipped, vUnder}
 use Rattle.windows.specs.Kept.{Pixel, Seen, kept}
 use Rattle.windows.specs.declared.Rectangle.{Rectangle}
 use Rattle.windows.specs.declared.Window.{Window}
@@ -19,15 +19,15 @@ use Rattle.drawing.specs.Draw.{outcome}
 -- Whatever W but 0 keeps of a rectangle are pixels of it that lie in the window.
 abbrev pub KeptIsSeen : Type 0
 KeptIsSeen =
-    (w : ℕ) (r : Rectangle) (win : Window) (v : Bool) → (w ≡ 0 → ⊥)
-    → (a b : ℕ) → Pixel (kept r (clipped w r win v)) a b
+    (w : ℕ) (r : Rectangle) (win : Window) → (w ≡ 0 → ⊥)
+    → (a b : ℕ) → Pixel (kept r (clipped w r win)) a b
     → Pixel r a b × Seen win a b
 
 -- W 3 keeps every pixel of the rectangle that lies in the window.
 abbrev pub SeenIsKept : Type 0
 SeenIsKept =
-    (r : Rectangle) (win : Window) (v : Bool) (a b : ℕ) → Pixel r a b → Seen win a b
-    → Pixel (kept r (clipped 3 r win v)) a b
+    (r : Rectangle) (win : Window) (a b : ℕ) → Pixel r a b → Seen win a b
+    → Pixel (kept r (clipped 3 r win)) a b
 
 -- ---- "meet", "wholly inside" and V, by the pixels of rectangle and window
 
@@ -52,14 +52,14 @@ InsideByPixels =
 -- window, under W 2 and 3 exactly where some pixel lies outside it (so that an empty array gives
 -- 0). W 1 and 2 raise a request with it, W 0 and 3 raise none.
 pub record ByPixels (r : Rectangle) (win : Window) (v : Bool) : Type 0 where
-  pub v-0 : clipped 0 r win v .v ≡ v
-  pub v-1 : (clipped 1 r win v .v ≡ true) ↔ Common r win
-  pub v-2 : (clipped 2 r win v .v ≡ true) ↔ Outside r win
-  pub v-3 : (clipped 3 r win v .v ≡ true) ↔ Outside r win
-  pub request-0 : clipped 0 r win v .request ≡ false
-  pub request-1 : clipped 1 r win v .request ≡ clipped 1 r win v .v
-  pub request-2 : clipped 2 r win v .request ≡ clipped 2 r win v .v
-  pub request-3 : clipped 3 r win v .request ≡ false
+  pub v-0 : vUnder 0 r win v ≡ v
+  pub v-1 : (vUnder 1 r win v ≡ true) ↔ Common r win
+  pub v-2 : (vUnder 2 r win v ≡ true) ↔ Outside r win
+  pub v-3 : (vUnder 3 r win v ≡ true) ↔ Outside r win
+  pub request-0 : clipped 0 r win .request ≡ false
+  pub request-1 : clipped 1 r win .request ≡ vUnder 1 r win v
+  pub request-2 : clipped 2 r win .request ≡ vUnder 2 r win v
+  pub request-3 : clipped 3 r win .request ≡ false
 
 abbrev pub VByPixels : Type 0
 VByPixels = (r : Rectangle) (win : Window) (v : Bool) → ByPixels r win v
@@ -72,11 +72,11 @@ WindowDecides =
     → refusal op s place words ≡ 0
     → (outcome op s place v budget words .v
     ≡ cond (toXY op)
-    (clipped (windowing (s .control)) (rectangleOf s) (windowOf (s .wstart) (s .wend)) v .v)
+    (vUnder (windowing (s .control)) (rectangleOf s) (windowOf (s .wstart) (s .wend)) v)
     v)
     × (outcome op s place v budget words .request
     ≡ cond (toXY op)
-    (clipped (windowing (s .control)) (rectangleOf s) (windowOf (s .wstart) (s .wend)) v .request)
+    (clipped (windowing (s .control)) (rectangleOf s) (windowOf (s .wstart) (s .wend)) .request)
     false)
 
 -- every statement of this file

@@ -10,37 +10,46 @@ use Rattle.address.proofs.Arithmetic.{positive-left, positive-right}
 use Rattle.windows.specs.declared.Rectangle.{Rectangle}
 use Rattle.windows.specs.declared.Window.{Window}
 use Rattle.windows.specs.declared.Clipped.{Clipped}
-use Rattle.windows.specs.Window.{before, shared, allIn, empty, inside, common, meet, nothing, whole, part, clipped}
+use Rattle.windows.specs.Window.{before, shared, allIn, empty, inside, common, meet, nothing, whole, part, clipped, vUnder}
 use Rattle.windows.specs.Kept.{Pixel, Seen, kept}
 
 -- ---- what W means, case by case
-module _ (w : ℕ) (r : Rectangle) (win : Window) (v : Bool) where
-  pub clipped-zero : w ≡ 0 → clipped w r win v ≡ whole r v
+module _ (w : ℕ) (r : Rectangle) (win : Window) where
+  pub clipped-zero : w ≡ 0 → clipped w r win ≡ whole r
   unfolding clipped
   clipped-zero h = rw (eq-eqb w 0 h)
 
   module _ (nonzero : w ≡ 0 → ⊥) where
-    pub clipped-empty : empty r ≡ true → clipped w r win v ≡ nothing false false
+    pub clipped-empty : empty r ≡ true → clipped w r win ≡ nothing false
     unfolding clipped
     clipped-empty e = rw (ne-eqb w 0 nonzero, e)
 
     module _ (filled : empty r ≡ false) where
-      pub clipped-one : w ≡ 1 → clipped w r win v ≡ nothing (meet r win) (meet r win)
+      pub clipped-one : w ≡ 1 → clipped w r win ≡ nothing (meet r win)
       unfolding clipped
       clipped-one h = rw (ne-eqb w 0 nonzero, filled, eq-eqb w 1 h)
 
       module _ (not-one : w ≡ 1 → ⊥) where
-        pub clipped-two-inside : w ≡ 2 → inside r win ≡ true → clipped w r win v ≡ whole r false
+        pub clipped-two-inside : w ≡ 2 → inside r win ≡ true → clipped w r win ≡ whole r
         unfolding clipped
         clipped-two-inside h i = rw (ne-eqb w 0 nonzero, filled, ne-eqb w 1 not-one, eq-eqb w 2 h, i)
 
-        pub clipped-two-outside : w ≡ 2 → inside r win ≡ false → clipped w r win v ≡ nothing true true
+        pub clipped-two-outside : w ≡ 2 → inside r win ≡ false → clipped w r win ≡ nothing true
         unfolding clipped
         clipped-two-outside h i = rw (ne-eqb w 0 nonzero, filled, ne-eqb w 1 not-one, eq-eqb w 2 h, i)
 
-        pub clipped-three : (w ≡ 2 → ⊥) → clipped w r win v ≡ part r win (not (inside r win))
+        pub clipped-three : (w ≡ 2 → ⊥) → clipped w r win ≡ part r win
         unfolding clipped
         clipped-three h = rw (ne-eqb w 0 nonzero, filled, ne-eqb w 1 not-one, ne-eqb w 2 h)
+
+-- ---- V: worked out anew, or as given
+pub vUnder-twice : (w : ℕ) (r : Rectangle) (win : Window) (v : Bool) → vUnder w r win (vUnder w r win v) ≡ vUnder w r win v
+unfolding vUnder
+vUnder-twice w r win v = go (eqb w 0) _
+  where
+    go : (z u : Bool) → cond z (cond z v u) u ≡ cond z v u
+    go true u = refl
+    go false u = refl
 
 -- ---- on one axis: n coordinates from c on, and a window from lo to hi
 module _ (c n lo hi : ℕ) where
@@ -59,21 +68,19 @@ module _ (c n lo hi : ℕ) where
 -- ---- what is drawn, under any W
 
 -- the whole, where W is 0 or the rectangle lies inside; nothing; or the common part
-module _ (w : ℕ) (r : Rectangle) (win : Window) (v : Bool) (P : Clipped → Type 0) where
-  clipped-cases : ((w ≡ 0) ⊎ (inside r win ≡ true) → (u : Bool) → P (whole r u))
-      → ((u q : Bool) → P (nothing u q)) → ((u : Bool) → P (part r win u)) → P (clipped w r win v)
+module _ (w : ℕ) (r : Rectangle) (win : Window) (P : Clipped → Type 0) where
+  clipped-cases : ((w ≡ 0) ⊎ (inside r win ≡ true) → P (whole r)) → ((q : Bool) → P (nothing q)) → P (part r win) → P (clipped w r win)
   unfolding clipped
   clipped-cases all none some = go (eqb w 0) (empty r) (eqb w 1) (meet r win) (eqb w 2) (inside r win) refl refl
     where
       go : (z e o m t i : Bool) → eqb w 0 ≡ z → inside r win ≡ i
-          → P (cond z (whole r v) (cond e (nothing false false) (cond o (nothing m m)
-          (cond t (cond i (whole r false) (nothing true true)) (part r win (not i))))))
-      go true e o m t i p q = all (inl (eqb-true w 0 p)) v
-      go false true o m t i p q = none false false
-      go false false true m t i p q = none m m
-      go false false false m true true p q = all (inr q) false
-      go false false false m true false p q = none true true
-      go false false false m false i p q = some (not i)
+          → P (cond z (whole r) (cond e (nothing false) (cond o (nothing m) (cond t (cond i (whole r) (nothing true)) (part r win)))))
+      go true e o m t i p q = all (inl (eqb-true w 0 p))
+      go false true o m t i p q = none false
+      go false false true m t i p q = none m
+      go false false false m true true p q = all (inr q)
+      go false false false m true false p q = none true
+      go false false false m false i p q = some
 
 -- what is kept of a rectangle has no more columns and rows, and where it has some, those skipped and kept are inside it
 pub record Fits (r : Rectangle) (k : Clipped) : Type 0 where
@@ -82,13 +89,13 @@ pub record Fits (r : Rectangle) (k : Clipped) : Type 0 where
   pub left : 0 < k .cols → k .left + k .cols ≤ r .cols
   pub above : 0 < k .rows → k .above + k .rows ≤ r .rows
 
-pub clipped-fits : (w : ℕ) (r : Rectangle) (win : Window) (v : Bool) → Fits r (clipped w r win v)
+pub clipped-fits : (w : ℕ) (r : Rectangle) (win : Window) → Fits r (clipped w r win)
 unfolding common
-clipped-fits w r win v =
-    clipped-cases w r win v (Fits r)
-    (λ _ u. record { cols = omega arith; rows = omega arith; left = λ h. omega arith; above = λ h. omega arith })
-    (λ u q. record { cols = omega arith; rows = omega arith; left = λ h. omega arith; above = λ h. omega arith })
-    (λ u. record {
+clipped-fits w r win =
+    clipped-cases w r win (Fits r)
+    (λ why. record { cols = omega arith; rows = omega arith; left = λ h. omega arith; above = λ h. omega arith })
+    (λ q. record { cols = omega arith; rows = omega arith; left = λ h. omega arith; above = λ h. omega arith })
+    (record {
       cols = shared-le (r .x) (r .cols) (win .left) (win .right);
       rows = shared-le (r .y) (r .rows) (win .top) (win .bottom);
       left = before-shared-le (r .x) (r .cols) (win .left) (win .right);
@@ -111,9 +118,9 @@ module _ (r : Rectangle) (win : Window) (a b : ℕ) where
   seen-of-common p = omega arith
 
 -- the common part is the common rectangle
-pub kept-part : (r : Rectangle) (win : Window) (v : Bool) → kept r (part r win v) ≡ common r win
+pub kept-part : (r : Rectangle) (win : Window) → kept r (part r win) ≡ common r win
 unfolding common
-kept-part r win v =
+kept-part r win =
     λ i. record {
       x = across i;
       y = down i;
@@ -160,27 +167,28 @@ module _ (r : Rectangle) (win : Window) where
       )
 
 -- what is kept are pixels of the rectangle
-pub pixel-of-kept : (w : ℕ) (r : Rectangle) (win : Window) (v : Bool) (a b : ℕ) → Pixel (kept r (clipped w r win v)) a b → Pixel r a b
+pub pixel-of-kept : (w : ℕ) (r : Rectangle) (win : Window) (a b : ℕ) → Pixel (kept r (clipped w r win)) a b → Pixel r a b
 unfolding common
-pixel-of-kept w r win v a b =
-    clipped-cases w r win v (λ (k : Clipped). Pixel (kept r k) a b → Pixel r a b)
-    (λ _ u p. omega arith)
-    (λ u q p. absurd (omega arith))
-    (λ u p. omega arith)
+pixel-of-kept w r win a b =
+    clipped-cases w r win (λ (k : Clipped). Pixel (kept r k) a b → Pixel r a b)
+    (λ why p. omega arith)
+    (λ q p. absurd (omega arith))
+    (λ p. omega arith)
 
 -- under W 1 to 3 they lie in the window
-pub seen-of-kept : (w : ℕ) (r : Rectangle) (win : Window) (v : Bool) → (w ≡ 0 → ⊥) → (a b : ℕ) → Pixel (kept r (clipped w r win v)) a b → Seen win a b
+pub seen-of-kept : (w : ℕ) (r : Rectangle) (win : Window) → (w ≡ 0 → ⊥) → (a b : ℕ) → Pixel (kept r (clipped w r win)) a b → Seen win a b
 unfolding common
-seen-of-kept w r win v nonzero a b =
-    clipped-cases w r win v (λ (k : Clipped). Pixel (kept r k) a b → Seen win a b)
-    (λ why u p. ⊎-elim (λ z. absurd (nonzero z)) (λ i. seen-of-inside r win i a b (omega arith)) why)
-    (λ u q p. absurd (omega arith))
-    (λ u p. omega arith)
+seen-of-kept w r win nonzero a b =
+    clipped-cases w r win (λ (k : Clipped). Pixel (kept r k) a b → Seen win a b)
+    (λ why p. ⊎-elim (λ z. absurd (nonzero z)) (λ i. seen-of-inside r win i a b (omega arith)) why)
+    (λ q p. absurd (omega arith))
+    (λ p. omega arith)
 
 -- under W 3 all pixels of the rectangle that lie in the window are kept
-pub kept-pixel : (r : Rectangle) (win : Window) (v : Bool) (a b : ℕ) → Pixel r a b → Seen win a b → Pixel (kept r (clipped 3 r win v)) a b
+pub kept-pixel : (r : Rectangle) (win : Window) (a b : ℕ) → Pixel r a b → Seen win a b → Pixel (kept r (clipped 3 r win)) a b
 unfolding common
-kept-pixel r win v a b p s = rw (clipped-three 3 r win v (λ z. omega arith) (filled-of-pixel r a b p) (λ z. omega arith) (λ z. omega arith)) (omega arith)
+kept-pixel r win a b p s =
+    rw (clipped-three 3 r win (λ z. omega arith) (filled-of-pixel r a b p) (λ z. omega arith) (λ z. omega arith)) (omega arith)
 
 -- ---- the rectangles meet exactly where they have a pixel in common
 module _ (r : Rectangle) (win : Window) where

@@ -2,7 +2,8 @@
 ghost use mathlib.Core.Path.{_≡_};
 ghost use Prim.Native.Nat.{_-_, max, min};
 ghost use Rattle.address.specs.Coordinate.{negative};
-ghost use Rattle.windows.specs.Window.{windowOf, badWindow, badWindowing, shared, allIn, empty, inside, common, meet, nothing, whole, part, clipped};
+ghost use Rattle.windows.specs.Window.{windowOf, badWindow, badWindowing, shared, allIn, empty, inside, common, meet};
+ghost use Rattle.windows.specs.Window.{nothing, whole, part, clipped, vUnder};
 
 // A rectangle of pixels: its upper left coordinates, each held as itself plus 2^15, its columns and its rows.
 pub struct Rectangle {
@@ -20,13 +21,12 @@ pub struct Window {
     pub bottom: u16,
 }
 
-// What is drawn of a rectangle: columns skipped at its left, rows skipped above, columns and rows kept; V and the request.
+// What is drawn of a rectangle: columns skipped at its left, rows skipped above, columns and rows kept; the request.
 pub struct Clipped {
     pub left: u16,
     pub above: u16,
     pub cols: u16,
     pub rows: u16,
-    pub v: bool,
     pub request: bool,
 }
 
@@ -78,28 +78,42 @@ pub fn common_of(r: Rectangle, w: Window) -> Rectangle
     }
 }
 
-// What is drawn of a rectangle under W, with V as given.
-pub fn clip(w: u16, r: Rectangle, window: Window, v: bool) -> Clipped
-    ensures { λ c. ⌜ c ≡ clipped w r window v ⌝ }
+// What is drawn of a rectangle under W.
+pub fn clip(w: u16, r: Rectangle, window: Window) -> Clipped
+    ensures { λ c. ⌜ c ≡ clipped w r window ⌝ }
 {
     if w == 0 {
-        return whole_of(r, v);
+        return whole_of(r);
     }
     if is_empty(r) {
-        return nothing_of(false, false);
+        return nothing_of(false);
     }
     if w == 1 {
-        let m = meets(r, window);
-        return nothing_of(m, m);
+        return nothing_of(meets(r, window));
     }
-    let fits = is_inside(r, window);
     if w == 2 {
-        if fits {
-            return whole_of(r, false);
+        if is_inside(r, window) {
+            return whole_of(r);
         }
-        return nothing_of(true, true);
+        return nothing_of(true);
     }
-    part_of(r, window, !fits)
+    part_of(r, window)
+}
+
+// V after a call with an XY destination, by V as given.
+pub fn v_under(w: u16, r: Rectangle, window: Window, v: bool) -> bool
+    ensures { λ after. ⌜ after ≡ vUnder w r window v ⌝ }
+{
+    if w == 0 {
+        return v;
+    }
+    if is_empty(r) {
+        return false;
+    }
+    if w == 1 {
+        return meets(r, window);
+    }
+    !is_inside(r, window)
 }
 
 // The greater of two numbers.
@@ -164,36 +178,34 @@ fn meets(r: Rectangle, w: Window) -> bool
 }
 
 // Nothing is drawn.
-fn nothing_of(v: bool, request: bool) -> Clipped
-    ensures { λ c. ⌜ c ≡ nothing v request ⌝ }
+fn nothing_of(request: bool) -> Clipped
+    ensures { λ c. ⌜ c ≡ nothing request ⌝ }
 {
     Clipped {
         left: 0,
         above: 0,
         cols: 0,
         rows: 0,
-        v,
         request,
     }
 }
 
 // The whole rectangle is drawn.
-fn whole_of(r: Rectangle, v: bool) -> Clipped
-    ensures { λ c. ⌜ c ≡ whole r v ⌝ }
+fn whole_of(r: Rectangle) -> Clipped
+    ensures { λ c. ⌜ c ≡ whole r ⌝ }
 {
     Clipped {
         left: 0,
         above: 0,
         cols: r.cols,
         rows: r.rows,
-        v,
         request: false,
     }
 }
 
 // The common part is drawn.
-fn part_of(r: Rectangle, w: Window, v: bool) -> Clipped
-    ensures { λ c. ⌜ c ≡ part r w v ⌝ }
+fn part_of(r: Rectangle, w: Window) -> Clipped
+    ensures { λ c. ⌜ c ≡ part r w ⌝ }
 {
     let kept = common_of(r, w);
     Clipped {
@@ -201,7 +213,6 @@ fn part_of(r: Rectangle, w: Window, v: bool) -> Clipped
         above: less(w.top, r.y),
         cols: kept.cols,
         rows: kept.rows,
-        v,
         request: false,
     }
 }

@@ -9,7 +9,7 @@ use Rattle.windows.specs.declared.Clipped.{Clipped}
 use Rattle.plot.specs.Drawing.{pixels}
 use Rattle.engine.specs.Engine.{visits, visitedFrom}
 use Rattle.plot.specs.declared.Drawing.{Drawing}
-use Rattle.arrays.specs.Array.{part, vAt, vAfter, drawingOf, drawingFor}
+use Rattle.arrays.specs.Array.{part, vAfter, drawingOf, drawingFor}
 use Rattle.array_refusal.specs.Refusal.{refusalOf, refusal}
 use Rattle.drawing.specs.Draw.{refused, outcomeAt, visitedBy, outcome, drawn}
 use Rattle.array_refusal.proofs.RefusalLaws.{place-le}
@@ -51,8 +51,8 @@ returns c =
 run-requires : tie.Need-run-requires
 run-requires c κs = search needs
 
-v-at-requires : tie.Need-v-at-requires
-v-at-requires c κs = search needs
+v-after-requires : tie.Need-v-after-requires
+v-after-requires c κs = search needs
 
 place-after-requires : tie.Need-place-after-requires
 place-after-requires c κs =
@@ -71,7 +71,7 @@ same-length : tie.Need-same-length
 same-length c = search needs
 
 returns-2 : tie.Need-returns-2
-unfolding outcome drawn vAfter
+unfolding outcome drawn
 returns-2 c =
     let u = c .before .before .before .before .before in
     let r = u .before .before .before in
@@ -80,7 +80,7 @@ returns-2 c =
     let z : refusal (x .op) (x .s) (x .place) (length (x .memory .now)) ≡ 0 = sym (refusal-is r) ∙ u .before .before .if1 .left in
     let part-is : d .before .part-of .result ≡ part (x .op) (x .s) = d .before .part-of .ensures in
     let drawing : d .drawing-of .result ≡ drawingFor (x .op) (x .s) = drawing-is d in
-    let v-is : c .before .before .v-at .result ≡ vAfter (x .op) (x .s) (x .v) = c .before .before .v-at .ensures ∙ ap (λ (k : Clipped). vAt (x .op) (x .s) k (x .v)) part-is in
+    let v-is : c .before .before .v-after .result ≡ vAfter (x .op) (x .s) (x .v) = c .before .before .v-after .ensures in
     let visited-is : u .run .result ≡ visitedFrom (drawingFor (x .op) (x .s)) (x .place) (x .budget) = u .run .ensures .0 ∙ ap (λ (e : Drawing). visitedFrom e (x .place) (x .budget)) drawing in
     let next-is : c .before .place-after .result ≡ x .place + u .run .result = c .before .place-after .ensures in
     (rw (eq-eqb _ _ z) (c .outcome-at .ensures ∙ (λ i. outcomeAt (x .op) (x .s) (part-is i) (drawing i) (v-is i) ((next-is ∙ ap (λ (n : ℕ). x .place + n) visited-is) i) (visited-is i))), rw (eq-eqb _ _ z) (u .run .ensures .1 ∙ ap (λ (e : Drawing). visits e (x .place) (visitedFrom e (x .place) (x .budget)) (x .memory .now)) drawing))
@@ -95,7 +95,7 @@ draw-spec =
     refused-requires
     returns
     run-requires
-    v-at-requires
+    v-after-requires
     place-after-requires
     outcome-at-requires
     same-length
