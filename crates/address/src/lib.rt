@@ -1,8 +1,15 @@
 // Coordinates, addresses and pitches.
 ghost use mathlib.Core.Path.{_≡_};
-ghost use Prim.Native.Nat.{_-_, _*_, _%_, _^_};
+ghost use Prim.Native.Nat.{_-_};
 ghost use Rattle.address.specs.Address.{xyAddress, badXYPitch, badLinearPitch, misaligned};
 ghost use Rattle.address.specs.Coordinate.{xOf, yOf, negative, halfOf, registerOf};
+use walk::Walk;
+
+// 2^16: the low half of a register is what is left of it, the high half how often it has it.
+const HALF: u32 = 65536;
+
+// 2^15: the coordinate 0, as it is held.
+const ZERO: u32 = 32768;
 
 // ---- coordinates: each is held as itself plus 2^15
 
@@ -10,35 +17,35 @@ ghost use Rattle.address.specs.Coordinate.{xOf, yOf, negative, halfOf, r
 pub fn x_of(xy: u32) -> u16
     ensures { λ r. ⌜ r ≡ xOf xy ⌝ }
 {
-    ((xy % 65536 + 32768) % 65536) as u16
+    ((xy % HALF + ZERO) % HALF) as u16
 }
 
 // Y of a register.
 pub fn y_of(xy: u32) -> u16
     ensures { λ r. ⌜ r ≡ yOf xy ⌝ }
 {
-    ((xy / 65536 + 32768) % 65536) as u16
+    ((xy / HALF + ZERO) % HALF) as u16
 }
 
 // Is a coordinate below 0?
 pub fn negative(c: u32) -> bool
     ensures { λ r. ⌜ r ≡ negative c ⌝ }
 {
-    c < 32768
+    c < ZERO
 }
 
 // The register of two coordinates.
 pub fn register_of(x: u16, y: u16) -> u32
     ensures { λ r. ⌜ r ≡ registerOf x y ⌝ }
 {
-    half_of(y) * 65536 + half_of(x)
+    half_of(y) * HALF + half_of(x)
 }
 
 // The half of a coordinate.
 fn half_of(c: u16) -> u32
     ensures { λ r. ⌜ r ≡ halfOf c ⌝ }
 {
-    (c as u32 + 32768) % 65536
+    (c as u32 + ZERO) % HALF
 }
 
 // ---- addresses and pitches
@@ -47,19 +54,16 @@ fn half_of(c: u16) -> u32
 pub fn xy_address(offset: u32, pitch: u32, psize: u16, x: u32, y: u32) -> u32
     ensures { λ r. ⌜ r ≡ xyAddress offset pitch psize x y ⌝ }
 {
-    let down = times(y, pitch);
-    let across = times(x, psize as u32);
-    ((offset as u64 + down + across) % 4294967296) as u32
+    let origin = Walk {
+        start: offset,
+        pitch,
+        step: psize as u32,
+    };
+    walk::address_at(origin, less(y, ZERO), less(x, ZERO))
 }
 
-// A coordinate that is not negative times a distance, modulo 2^32.
-fn times(c: u32, distance: u32) -> u64
-    ensures { λ r. ⌜ r ≡ (c - 2 ^ 15) * distance % 2 ^ 32 ⌝ }
-{
-    less(c, 32768) as u64 * distance as u64 % 4294967296
-}
-
-// Refusal 13 for an XY array or a lone XY pixel. A power of two, and no other number but 0, has no bit in common with the number before it.
+// Refusal 13 for an XY array or a lone XY pixel. A power of two, and no other number but 0, has
+// no bit in common with the number before it.
 pub fn bad_xy_pitch(pitch: u32) -> bool
     ensures { λ r. ⌜ r ≡ badXYPitch pitch ⌝ }
 {

@@ -5,12 +5,12 @@ use Prim.Native.Nat.{ℕ}
 use lib.Dec.{eqb, ltb}
 use Rattle.address.specs.Coordinate.{negative}
 use Rattle.address.specs.Address.{badXYPitch, badLinearPitch, misaligned}
-use Rattle.walk.specs.Walk.{leavesMemory}
+use Rattle.extent.specs.Extent.{leavesMemory}
 use Rattle.windows.specs.declared.Clipped.{Clipped}
 use Rattle.settings.specs.declared.Settings.{Settings}
 use Rattle.refusal.specs.declared.Tests.{Tests}
 use Rattle.refusal.specs.Refusal.{badWindowOf, lowest}
-use Rattle.plot.specs.Drawing.{pixels, stepOf}
+use Rattle.plot.specs.Drawing.{pixels}
 use Rattle.plot.specs.declared.Drawing.{Drawing}
 use Rattle.operation.specs.declared.Operation.{Operation}
 use Rattle.operation.specs.Operation.{toXY, fromXY, sourceOf, copies, copiesPixels}
@@ -28,16 +28,18 @@ abbrev pub negativeStart : ℕ → Clipped → Bool
 negativeStart xy c = negative (startX xy c) || negative (startY xy c)
 
 abbrev pub badDest : Operation → Settings → Clipped → Drawing → Bool
-badDest op s c d = (toXY op && negativeStart (s .daddr) c) || misaligned (s .psize) (d .dest)
+badDest op s c d = (toXY op && negativeStart (s .daddr) c) || misaligned (s .psize) (d .dest .start)
 
 abbrev pub badSource : Operation → Settings → Clipped → Drawing → Bool
-badSource op s c d = copiesPixels (sourceOf op) && ((fromXY op && negativeStart (s .saddr) c) || misaligned (s .psize) (d .src))
+badSource op s c d =
+    copiesPixels (sourceOf op)
+    && ((fromXY op && negativeStart (s .saddr) c) || misaligned (s .psize) (d .src .start))
 
 -- 17: some pixel or source bit that would be visited over the whole operation lies past the memory's end
 abbrev pub leaves : ℕ → Operation → Drawing → Bool
 leaves words op d =
-    leavesMemory words (d .dest) (d .cols) (d .rows) (d .dpitch) (d .psize)
-    || (copies (sourceOf op) && leavesMemory words (d .src) (d .cols) (d .rows) (d .spitch) (stepOf (sourceOf op) (d .psize)))
+    leavesMemory words (d .dest) (d .cols) (d .rows)
+    || (copies (sourceOf op) && leavesMemory words (d .src) (d .cols) (d .rows))
 
 -- 16 where there are pixels to draw
 abbrev pub badStart : Operation → Settings → Clipped → Drawing → Bool

@@ -66,7 +66,7 @@ fn bad_dest(op: Operation, s: Settings, c: Clipped, d: Drawing) -> bool
     ensures { λ r. ⌜ r ≡ badDest op s c d ⌝ }
 {
     let below = negative_start(s.daddr, c);
-    let uneven = address::misaligned(s.psize, d.dest);
+    let uneven = address::misaligned(s.psize, d.dest.start);
     (operation::to_xy(op) & below) | uneven
 }
 
@@ -74,7 +74,7 @@ fn bad_source(op: Operation, s: Settings, c: Clipped, d: Drawing) -> bool
     ensures { λ r. ⌜ r ≡ badSource op s c d ⌝ }
 {
     let below = negative_start(s.saddr, c);
-    let uneven = address::misaligned(s.psize, d.src);
+    let uneven = address::misaligned(s.psize, d.src.start);
     let pixels = operation::copies_pixels(operation::source_of(op));
     pixels & ((operation::from_xy(op) & below) | uneven)
 }
@@ -83,11 +83,9 @@ fn bad_source(op: Operation, s: Settings, c: Clipped, d: Drawing) -> bool
 fn leaves(words: usize, op: Operation, d: Drawing) -> bool
     ensures { λ r. ⌜ r ≡ leaves words op d ⌝ }
 {
-    let source = operation::source_of(op);
-    let step = plot::step_of(source, d.psize);
-    let dest = walk::leaves_memory(words, d.dest, d.cols, d.rows, d.dpitch, d.psize);
-    let src = walk::leaves_memory(words, d.src, d.cols, d.rows, d.spitch, step);
-    let copy = operation::copies(source);
+    let dest = extent::leaves_memory(words, d.dest, d.cols, d.rows);
+    let src = extent::leaves_memory(words, d.src, d.cols, d.rows);
+    let copy = operation::copies(operation::source_of(op));
     dest | (copy & src)
 }
 

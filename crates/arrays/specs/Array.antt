@@ -1,22 +1,31 @@
--- The arrays of a drawing after the window (the scope, "Arrays, windows and slices"): what is drawn, and where both walks start.
--- Assumes nothing.
+-- The arrays of a drawing after the window (the scope, "Arrays, windows and slices"): what is
+-- drawn, and both walks. Assumes nothing.
 use mathlib.Core.Bool.{Bool, cond}
-use Prim.Native.Nat.{ℕ, _+_, _*_, _/_, _%_, _^_}
+use Prim.Native.Nat.{ℕ, _+_, _/_, _%_, _^_}
 use Rattle.control.specs.Control.{transparency, windowing, processing}
+use Rattle.walk.specs.declared.Walk.{Walk}
+use Rattle.walk.specs.Walk.{addressAt, startAt}
 use Rattle.address.specs.Coordinate.{xOf, yOf}
 use Rattle.address.specs.Address.{xyAddress}
 use Rattle.windows.specs.Window.{windowOf, clipped, vUnder, whole}
 use Rattle.windows.specs.declared.Rectangle.{Rectangle}
 use Rattle.windows.specs.declared.Clipped.{Clipped}
 use Rattle.settings.specs.declared.Settings.{Settings}
-use Rattle.plot.specs.Drawing.{stepOf}
+use Rattle.plot.specs.declared.Source.{Source}
+use Rattle.plot.specs.declared.Source.the-variants.{Color, Pixels, Bits}
 use Rattle.plot.specs.declared.Drawing.{Drawing}
 use Rattle.operation.specs.declared.Operation.{Operation}
 use Rattle.operation.specs.Operation.{toXY, fromXY, sourceOf}
 
 -- the destination rectangle X to X+DX-1, Y to Y+DY-1; DX and DY are unsigned
 abbrev pub rectangleOf : Settings → Rectangle
-rectangleOf s = record { x = xOf (s .daddr); y = yOf (s .daddr); cols = s .dydx % 2 ^ 16; rows = s .dydx / 2 ^ 16 }
+rectangleOf s =
+    record {
+      x = xOf (s .daddr);
+      y = yOf (s .daddr);
+      cols = s .dydx % 2 ^ 16;
+      rows = s .dydx / 2 ^ 16;
+    }
 
 -- what of it is drawn, with the request; linear destinations ignore W
 unfoldable pub part : Operation → Settings → Clipped
@@ -32,7 +41,8 @@ vAfter op s v =
     (vUnder (windowing (s .control)) (rectangleOf s) (windowOf (s .wstart) (s .wend)) v)
     v
 
--- the XY start of an array after clipping, which moves it by the columns and rows skipped, unwrapped
+-- the XY start of an array after clipping, which moves it by the columns and rows skipped,
+-- unwrapped
 abbrev pub startX : ℕ → Clipped → ℕ
 startX xy c = xOf xy + c .left
 
@@ -42,13 +52,28 @@ startY xy c = yOf xy + c .above
 -- where the destination's walk starts
 unfoldable pub destStart : Operation → Settings → Clipped → ℕ
 destStart op s c =
-    cond (toXY op) (xyAddress (s .offset) (s .dptch) (s .psize) (startX (s .daddr) c) (startY (s .daddr) c)) (s .daddr)
+    cond (toXY op)
+    (xyAddress (s .offset) (s .dptch) (s .psize) (startX (s .daddr) c) (startY (s .daddr) c))
+    (s .daddr)
 
--- where the source's walk starts: a linear start moves by the same columns and rows, a B source by bits and SPTCH
+-- from one source pixel to the next: PSIZE bits, or one bit of a B source
+abbrev pub stepOf : Source → ℕ → ℕ
+stepOf Color psize = 0
+stepOf Pixels psize = psize
+stepOf Bits psize = 1
+
+-- the walk of a linear source, before clipping
+abbrev pub linearSource : Operation → Settings → Walk
+linearSource op s =
+    record { start = s .saddr; pitch = s .sptch; step = stepOf (sourceOf op) (s .psize) }
+
+-- where the source's walk starts: a linear start moves by the same columns and rows, a B source by
+-- bits and SPTCH
 unfoldable pub srcStart : Operation → Settings → Clipped → ℕ
 srcStart op s c =
-    cond (fromXY op) (xyAddress (s .offset) (s .sptch) (s .psize) (startX (s .saddr) c) (startY (s .saddr) c))
-    ((s .saddr + c .above * s .sptch + c .left * stepOf (sourceOf op) (s .psize)) % 2 ^ 32)
+    cond (fromXY op)
+    (xyAddress (s .offset) (s .sptch) (s .psize) (startX (s .saddr) c) (startY (s .saddr) c))
+    (addressAt (linearSource op s) (c .above) (c .left))
 
 -- the drawing; the low 16 bits of the colours count
 unfoldable pub drawingOf : Operation → Settings → Clipped → Drawing
@@ -56,11 +81,9 @@ drawingOf op s c =
     record {
       cols = c .cols;
       rows = c .rows;
-      dest = destStart op s c;
-      dpitch = s .dptch;
+      dest = record { start = destStart op s c; pitch = s .dptch; step = s .psize };
       source = sourceOf op;
-      src = srcStart op s c;
-      spitch = s .sptch;
+      src = startAt (linearSource op s) (srcStart op s c);
       psize = s .psize;
       pp = processing (s .control);
       t = transparency (s .control);

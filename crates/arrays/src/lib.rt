@@ -1,10 +1,12 @@
-// The arrays of a drawing after the window: what is drawn, and where both walks start.
+// The arrays of a drawing after the window: what is drawn, and both walks.
 ghost use mathlib.Core.Path.{_≡_};
-ghost use Prim.Native.Nat.{_+_, _*_, _%_, _^_};
-ghost use Rattle.arrays.specs.Array.{rectangleOf, part, vAfter, startX, startY, destStart, srcStart, drawingOf};
+ghost use Rattle.arrays.specs.Array.{rectangleOf, part, vAfter, startX, startY, destStart};
+ghost use Rattle.arrays.specs.Array.{stepOf, linearSource, srcStart, drawingOf};
 use operation::Operation;
 use plot::Drawing;
+use plot::Source;
 use settings::Settings;
+use walk::Walk;
 use windows::Clipped;
 use windows::Rectangle;
 
@@ -85,17 +87,30 @@ fn src_start(op: Operation, s: Settings, c: Clipped) -> u32
         let y = start_y(s.saddr, c);
         return address::xy_address(s.offset, s.sptch, s.psize, x, y);
     }
-    let step = plot::step_of(operation::source_of(op), s.psize);
-    moved(s.saddr, c.above, s.sptch, c.left, step)
+    walk::address_at(linear_source(op, s), c.above as u32, c.left as u32)
 }
 
-// A linear start moved by rows and columns.
-fn moved(start: u32, rows: u16, pitch: u32, cols: u16, step: u16) -> u32
-    ensures { λ r. ⌜ r ≡ (start + rows * pitch + cols * step) % 2 ^ 32 ⌝ }
+// The walk of a linear source, before clipping.
+fn linear_source(op: Operation, s: Settings) -> Walk
+    ensures { λ r. ⌜ r ≡ linearSource op s ⌝ }
 {
-    let down = (rows as u64) * (pitch as u64);
-    let across = (cols as u64) * (step as u64);
-    ((start as u64 + down + across) % 4294967296) as u32
+    let step = step_of(operation::source_of(op), s.psize);
+    Walk {
+        start: s.saddr,
+        pitch: s.sptch,
+        step,
+    }
+}
+
+// From one source pixel to the next: PSIZE bits, or one bit of a B source.
+fn step_of(source: Source, psize: u16) -> u32
+    ensures { λ r. ⌜ r ≡ stepOf source psize ⌝ }
+{
+    match source {
+        Source::Color => 0,
+        Source::Pixels => psize as u32,
+        Source::Bits => 1,
+    }
 }
 
 // The drawing.
@@ -103,18 +118,25 @@ pub fn drawing_of(op: Operation, s: Settings, c: Clipped) -> Drawing
     ensures { λ r. ⌜ r ≡ drawingOf op s c ⌝ }
 {
     let source = operation::source_of(op);
-    let dest = dest_start(op, s, c);
-    let src = src_start(op, s, c);
+    let to = dest_start(op, s, c);
+    let from = src_start(op, s, c);
+    let linear = linear_source(op, s);
     let pp = control::processing(s.control);
     let t = control::transparency(s.control);
     Drawing {
         cols: c.cols,
         rows: c.rows,
-        dest,
-        dpitch: s.dptch,
+        dest: Walk {
+            start: to,
+            pitch: s.dptch,
+            step: s.psize as u32,
+        },
         source,
-        src,
-        spitch: s.sptch,
+        src: Walk {
+            start: from,
+            pitch: linear.pitch,
+            step: linear.step,
+        },
         psize: s.psize,
         pp,
         t,

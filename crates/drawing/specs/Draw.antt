@@ -1,10 +1,13 @@
--- A FILL or PIXBLT call (the scope, "Arrays, windows and slices"): what it hands back, and the memory that it leaves. Assumes nothing.
+-- A FILL or PIXBLT call (the scope, "Arrays, windows and slices"): what it hands back, and the
+-- memory that it leaves. Assumes nothing.
 use mathlib.Core.Bool.{Bool, false, cond, not, _&&_}
 use mathlib.Core.List.{List}
-use Prim.Native.Nat.{ℕ, _+_, _*_, _%_, _^_}
+use Prim.Native.Nat.{ℕ, _+_, _*_, _^_}
 use lib.Dec.{eqb}
 use lib.ListN.{length}
 use Rattle.control.specs.Control.{windowing}
+use Rattle.walk.specs.declared.Walk.{Walk}
+use Rattle.walk.specs.Walk.{addressAt}
 use Rattle.address.specs.Coordinate.{registerOf}
 use Rattle.windows.specs.Window.{windowOf, common}
 use Rattle.windows.specs.declared.Rectangle.{Rectangle}
@@ -19,7 +22,8 @@ use Rattle.operation.specs.Operation.{sourceOf, copies}
 use Rattle.arrays.specs.Array.{rectangleOf, part, vAfter, drawingFor}
 use Rattle.array_refusal.specs.Refusal.{refusal}
 
--- a refused call returns its number, no request, zero for visited, and settings, place, V and registers as given
+-- a refused call returns its number, no request, zero for visited, and settings, place, V and
+-- registers as given
 abbrev pub refused : Settings → ℕ → Bool → ℕ → Outcome
 refused s place v answer =
     record {
@@ -45,11 +49,12 @@ commonOf s = common (rectangleOf s) (windowOf (s .wstart) (s .wend))
 abbrev pub doneSome : Drawing → ℕ → Bool
 doneSome d place = eqb place (pixels d) && not (eqb (pixels d) 0)
 
--- an array's linear start plus its rows times the pitch, modulo 2^32
-abbrev pub rowAfter : ℕ → ℕ → ℕ → ℕ
-rowAfter start rows pitch = (start + rows * pitch) % 2 ^ 32
+-- an array's linear start plus its rows times the pitch, modulo 2^32: the row after its last
+abbrev pub rowAfter : Walk → ℕ → ℕ
+rowAfter w rows = addressAt w rows 0
 
--- a call that is not refused, at its new place: done if that is n, else stopped, and the registers stay
+-- a call that is not refused, at its new place: done if that is n, else stopped, and the registers
+-- stay
 unfoldable pub outcomeAt : Operation → Settings → Clipped → Drawing → Bool → ℕ → ℕ → Outcome
 outcomeAt op s c d v place visited =
     record {
@@ -58,8 +63,11 @@ outcomeAt op s c d v place visited =
       visited = visited;
       v = v;
       request = c .request;
-      saddr = cond (doneSome d place && copies (sourceOf op)) (rowAfter (d .src) (d .rows) (d .spitch)) (s .saddr);
-      daddr = cond (found s c) (registerOf (commonOf s .x) (commonOf s .y)) (cond (doneSome d place) (rowAfter (d .dest) (d .rows) (d .dpitch)) (s .daddr));
+      saddr =
+          cond (doneSome d place && copies (sourceOf op)) (rowAfter (d .src) (d .rows)) (s .saddr);
+      daddr =
+          cond (found s c) (registerOf (commonOf s .x) (commonOf s .y))
+          (cond (doneSome d place) (rowAfter (d .dest) (d .rows)) (s .daddr));
       dydx = cond (found s c) (commonOf s .rows * 2 ^ 16 + commonOf s .cols) (s .dydx);
       settings = s;
     }
@@ -72,7 +80,8 @@ visitedBy op s place budget = visitedFrom (drawingFor op s) place budget
 unfoldable pub outcome : Operation → Settings → ℕ → Bool → ℕ → ℕ → Outcome
 outcome op s place v budget words =
     cond (eqb (refusal op s place words) 0)
-    (outcomeAt op s (part op s) (drawingFor op s) (vAfter op s v) (place + visitedBy op s place budget) (visitedBy op s place budget))
+    (outcomeAt op s (part op s) (drawingFor op s) (vAfter op s v)
+    (place + visitedBy op s place budget) (visitedBy op s place budget))
     (refused s place v (refusal op s place words))
 
 -- the memory after a call

@@ -6,15 +6,16 @@ ghost use lib.ListN.{length};
 ghost use Prim.Native.Nat.{_+_, _≤_};
 ghost use Rattle.plot.specs.Drawing.{pixels};
 ghost use Rattle.operation.specs.Operation.{sourceOf, copies};
-ghost use Rattle.drawing.specs.Draw.{refused, commonOf, doneSome, rowAfter, outcomeAt, outcome, drawn};
+ghost use Rattle.drawing.specs.Draw.{refused, commonOf, doneSome, rowAfter};
+ghost use Rattle.drawing.specs.Draw.{outcomeAt, outcome, drawn};
 use operation::Operation;
 use plot::Drawing;
 use settings::Settings;
 use windows::Clipped;
 use windows::Rectangle;
 
-// What a call hands back: 0 done, 1 stopped, else the refusal's number; the new place; the pixels visited by this call; V and the
-// request; the registers; the settings as given.
+// What a call hands back: 0 done, 1 stopped, else the refusal's number; the new place; the pixels
+// visited by this call; V and the request; the registers; the settings as given.
 pub struct Outcome {
     pub answer: u32,
     pub place: u64,
@@ -44,14 +45,6 @@ fn refused(s: Settings, place: u64, v: bool, answer: u32) -> Outcome
     }
 }
 
-// The row after an array's last.
-fn row_after(start: u32, rows: u16, pitch: u32) -> u32
-    ensures { λ r. ⌜ r ≡ rowAfter start rows pitch ⌝ }
-{
-    let down = (rows as u64) * (pitch as u64);
-    ((start as u64 + down) % 4294967296) as u32
-}
-
 // Is the drawing done, with pixels?
 fn done_some(d: Drawing, place: u64) -> bool
     ensures { λ r. ⌜ r ≡ doneSome d place ⌝ }
@@ -70,21 +63,22 @@ fn common_rectangle(s: Settings) -> Rectangle
 
 // SADDR after the call.
 fn saddr_after(op: Operation, s: Settings, d: Drawing, place: u64) -> u32
-    ensures { λ r. ⌜ r ≡ cond (doneSome d place && copies (sourceOf op)) (rowAfter (d .src) (d .rows) (d .spitch)) (s .saddr) ⌝ }
+    ensures { λ r. let moves = doneSome d place && copies (sourceOf op) in
+        ⌜ r ≡ cond moves (rowAfter (d .src) (d .rows)) (s .saddr) ⌝ }
 {
     let copy = operation::copies(operation::source_of(op));
     if done_some(d, place) & copy {
-        return row_after(d.src, d.rows, d.spitch);
+        return walk::address_at(d.src, d.rows as u32, 0);
     }
     s.saddr
 }
 
 // DADDR after the call, where no common rectangle is handed back.
 fn daddr_after(s: Settings, d: Drawing, place: u64) -> u32
-    ensures { λ r. ⌜ r ≡ cond (doneSome d place) (rowAfter (d .dest) (d .rows) (d .dpitch)) (s .daddr) ⌝ }
+    ensures { λ r. ⌜ r ≡ cond (doneSome d place) (rowAfter (d .dest) (d .rows)) (s .daddr) ⌝ }
 {
     if done_some(d, place) {
-        return row_after(d.dest, d.rows, d.dpitch);
+        return walk::address_at(d.dest, d.rows as u32, 0);
     }
     s.daddr
 }
@@ -148,7 +142,8 @@ fn outcome_at(
     }
 }
 
-// A FILL or PIXBLT call: visits the lesser of the budget and the pixels that are left, from the place on.
+// A FILL or PIXBLT call: visits the lesser of the budget and the pixels that are left, from the
+// place on.
 pub fn draw(
     memory: &mut [u16],
     op: Operation,
@@ -157,7 +152,9 @@ pub fn draw(
     v: bool,
     budget: u64,
 ) -> Outcome
-    ensures { λ r. ⌜ (r ≡ outcome op s place v budget (length (now (memory .entry)))) × (now (memory .exit) ≡ drawn op s place budget (now (memory .entry))) ⌝ }
+    ensures { λ r. let m = now (memory .entry) in
+        ⌜ (r ≡ outcome op s place v budget (length m))
+        × (now (memory .exit) ≡ drawn op s place budget m) ⌝ }
 {
     let c = arrays::part_of(op, s);
     let d = arrays::drawing_of(op, s, c);

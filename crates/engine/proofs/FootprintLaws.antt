@@ -56,9 +56,12 @@ module _ (n : ℕ) (d : Drawing) (i : ℕ) where
 
       module _ (m m′ : List ℕ) (agree : (b : ℕ) → PixelReads d i b ⊎ PixelWrites d i b → bitAt m b ≡ bitAt m′ b) where
         -- memories that agree on what is read have sources that agree where the destination's mask lets them through
-        sources : (k : Source) → d .source ≡ k → (j : ℕ) → j < d .psize → bitOf (d .pmask) ((destOf d i + j) % 16) ≡ 0 → bitOf (S m) j ≡ bitOf (S m′) j
+        sources : (k : Source) → d .source ≡ k → (j : ℕ) → j < d .psize → bitOf (d .pmask) ((destOf d i + j) % 16) ≡ 0
+            → bitOf (S m) j ≡ bitOf (S m′) j
         unfolding S
-        sources Color e j hj z = ap (λ (v : ℕ). bitOf v j) (source-color d (srcOf d i) (destOf d i) m e ∙ sym (source-color d (srcOf d i) (destOf d i) m′ e))
+        sources Color e j hj z =
+            ap (λ (v : ℕ). bitOf v j)
+            (source-color d (srcOf d i) (destOf d i) m e ∙ sym (source-color d (srcOf d i) (destOf d i) m′ e))
         sources Pixels e j hj z =
             let o : j ≡ (srcOf d i + j) - srcOf d i = omega arith in
             bit-source e m j hj
@@ -78,7 +81,8 @@ module _ (n : ℕ) (d : Drawing) (i : ℕ) where
             ∙ sym (source-bits d (srcOf d i) (destOf d i) m′ e))
 
       -- what the bits that it may write become depends on them and on what it reads, and on nothing else
-      pub visit-depend : {m m′ : List ℕ} → Memory n m → Memory n m′ → ((b : ℕ) → PixelReads d i b ⊎ PixelWrites d i b → bitAt m b ≡ bitAt m′ b)
+      pub visit-depend : {m m′ : List ℕ} → Memory n m → Memory n m′
+          → ((b : ℕ) → PixelReads d i b ⊎ PixelWrites d i b → bitAt m b ≡ bitAt m′ b)
           → (b : ℕ) → PixelWrites d i b → bitAt (visit d i m) b ≡ bitAt (visit d i m′) b
       visit-depend {m} {m′} g g′ agree b w =
           ap (λ (x : List ℕ). bitAt x b) (visit-plotted m)

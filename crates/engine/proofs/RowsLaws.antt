@@ -1,38 +1,17 @@
 -- The loop over whole rows: i of n pixels are drawn, and while some are left the addresses are those of the next row's first pixel.
 -- No contract cites this file. Assumes nothing.
-use mathlib.Core.Path.{_≡_, refl, sym, ap, _∙_}
+use mathlib.Core.Path.{_≡_, sym, ap, _∙_}
 use mathlib.Core.List.{List}
 use Prim.Native.Nat.{ℕ, _+_, _-_, _*_, _/_, _%_, _^_, _≤_, _<_, min}
 use native.Mathlib.Nat.{mod-lt, div-add-mod', one-mul, add-mul}
 use native.Mathlib.Omega.{arith}
-use lib.Arith.{digits-div, digits-mod}
-use Rattle.walk.specs.Walk.{addressOf}
+use lib.Arith.{digits-mod}
+use Rattle.walk.proofs.WalkLaws.{next-mod, addressOf-down}
 use Rattle.plot.specs.declared.Drawing.{Drawing}
-use Rattle.plot.specs.Drawing.{stepOf}
 use Rattle.engine.specs.Engine.{srcOf, destOf, visits}
 use Rattle.row.specs.Row.{rowDrawn}
 use Rattle.engine.proofs.RowLaws.{row-visits}
 use Rattle.engine.proofs.VisitsLaws.{visits-none, visits-add}
-
--- cols more: the same column of the next row
-next-mod : (cols i : ℕ) → 0 < cols → (i + cols) % cols ≡ i % cols
-next-mod cols i h =
-    let e : i + cols ≡ (i / cols + 1) * cols + i % cols = omega (arith, div-add-mod' i cols, add-mul (i / cols) 1 cols, one-mul cols) in
-    ap (λ (x : ℕ). x % cols) e ∙ digits-mod (i / cols + 1) (mod-lt i h)
-
-next-div : (cols i : ℕ) → 0 < cols → (i + cols) / cols ≡ i / cols + 1
-next-div cols i h =
-    let e : i + cols ≡ (i / cols + 1) * cols + i % cols = omega (arith, div-add-mod' i cols, add-mul (i / cols) 1 cols, one-mul cols) in
-    ap (λ (x : ℕ). x / cols) e ∙ digits-div (i / cols + 1) (mod-lt i h)
-
-addressOf-below : (start cols pitch step i : ℕ) → 0 < cols
-    → addressOf start cols pitch step (i + cols) ≡ (addressOf start cols pitch step i + pitch) % 2 ^ 32
-unfolding addressOf
-addressOf-below start cols pitch step i h =
-    rw (next-div cols i h, next-mod cols i h) (below start (i / cols) pitch (i % cols * step))
-  where
-    below : (start q pitch col : ℕ) → (start + (q + 1) * pitch + col) % 2 ^ 32 ≡ ((start + q * pitch + col) % 2 ^ 32 + pitch) % 2 ^ 32
-    below start q pitch col = omega (arith, add-mul q 1 pitch, one-mul pitch)
 
 -- where the first row ends
 pub piece-ends : (cols k n : ℕ) {count : ℕ} → 0 < cols → count ≡ min n (cols - k % cols) → count < n → (k + count) % cols ≡ 0
@@ -67,11 +46,12 @@ module _ {m₀ : List ℕ} {d : Drawing} {k n : ℕ} where
         at = λ l. rw (← e) (record { first = z; from-is = f; to-is = t });
       }
 
-  module _ {m : List ℕ} {from to i count : ℕ} (inv : Rows m₀ d k n m from to i) (more : i < n) (e : count ≡ min (d .cols) (n - i)) where
+  module _ {m : List ℕ} {from to i count : ℕ} (inv : Rows m₀ d k n m from to i) (more : i < n)
+      (e : count ≡ min (d .cols) (n - i)) where
     pub rows-some : 0 < count
     rows-some = omega (arith, e, inv .pos)
 
-    pub rows-row : (k + i) % d .cols + count ≤ d .cols
+    rows-row : (k + i) % d .cols + count ≤ d .cols
     rows-row = omega (arith, e, inv .at more .first)
 
     pub rows-end : i + count ≤ n
@@ -81,7 +61,8 @@ module _ {m₀ : List ℕ} {d : Drawing} {k n : ℕ} where
     rows-drawn : rowDrawn d from to count m ≡ visits d (k + i) count m
     rows-drawn = rw (inv .at more .from-is, inv .at more .to-is) (row-visits d (k + i) count m rows-row)
 
-    pub next-rows : {m′ : List ℕ} {from′ to′ : ℕ} → m′ ≡ rowDrawn d from to count m → from′ ≡ (from + d .spitch) % 2 ^ 32 → to′ ≡ (to + d .dpitch) % 2 ^ 32
+    pub next-rows : {m′ : List ℕ} {from′ to′ : ℕ} → m′ ≡ rowDrawn d from to count m
+        → from′ ≡ (from + d .src .pitch) % 2 ^ 32 → to′ ≡ (to + d .dest .pitch) % 2 ^ 32
         → Rows m₀ d k n m′ from′ to′ (i + count)
     next-rows {m′} {from′} {to′} v f t = record {
       pos = inv .pos;
@@ -98,8 +79,8 @@ module _ {m₀ : List ℕ} {d : Drawing} {k n : ℕ} where
             rw q
             (record {
               first = next-mod (d .cols) (k + i) (inv .pos) ∙ a .first;
-              from-is = f ∙ ap (λ (x : ℕ). (x + d .spitch) % 2 ^ 32) (a .from-is)
-                  ∙ sym (addressOf-below (d .src) (d .cols) (d .spitch) (stepOf (d .source) (d .psize)) (k + i) (inv .pos));
-              to-is = t ∙ ap (λ (x : ℕ). (x + d .dpitch) % 2 ^ 32) (a .to-is)
-                  ∙ sym (addressOf-below (d .dest) (d .cols) (d .dpitch) (d .psize) (k + i) (inv .pos));
+              from-is = f ∙ ap (λ (x : ℕ). (x + d .src .pitch) % 2 ^ 32) (a .from-is)
+                  ∙ sym (addressOf-down (d .src) (d .cols) (k + i) (inv .pos));
+              to-is = t ∙ ap (λ (x : ℕ). (x + d .dest .pitch) % 2 ^ 32) (a .to-is)
+                  ∙ sym (addressOf-down (d .dest) (d .cols) (k + i) (inv .pos));
             })

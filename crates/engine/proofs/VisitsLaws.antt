@@ -1,16 +1,15 @@
--- Visits one after the other: none, one more, a slice and then another; the memory keeps its length and its words their 16 bits. What
+-- Visits one after the other: none, a slice and then another; the memory keeps its length and its words their 16 bits. What
 -- the first visit of a drawing in a colour draws.
 -- No contract cites this file. Assumes nothing.
-use mathlib.Core.Path.{_≡_, refl, ap, ap₂, _∙_}
+use mathlib.Core.Path.{_≡_, refl, ap, _∙_}
 use mathlib.Core.List.{List}
-use Prim.Native.Nat.{ℕ, zero, suc, _+_, _*_, _%_, _^_, _≤_, _<_}
-use native.Mathlib.Nat.{pos-of-ne-zero, zero-mul, zero-div, zero-mod, add-zero, add-suc, add-assoc}
-use native.Mathlib.Numerals.{add-one}
+use Prim.Native.Nat.{ℕ, zero, suc, _+_, _*_, _^_, _≤_, _<_}
+use native.Mathlib.Nat.{pos-of-ne-zero, zero-mul, add-zero, add-suc, add-assoc}
 use native.Mathlib.Omega.{arith}
 use lib.ListN.{length}
 use Rattle.memory.specs.Bits.{Memory}
 use Rattle.pixel.specs.Pixel.{topOf, plotted}
-use Rattle.walk.specs.Walk.{addressOf}
+use Rattle.walk.proofs.WalkLaws.{addressOf-first}
 use Rattle.plot.specs.declared.Source.the-variants.{Color}
 use Rattle.plot.specs.declared.Drawing.{Drawing}
 use Rattle.plot.specs.Drawing.{pixels}
@@ -30,10 +29,6 @@ module _ (d : Drawing) (k : ℕ) where
   unfolding visits
   visits-none m = refl
 
-  pub visits-next : (n : ℕ) (m : List ℕ) → visits d k (n + 1) m ≡ visit d (k + n) (visits d k n m)
-  unfolding visits
-  visits-next n m = rw add-one
-
   pub length-visits : (n : ℕ) (m : List ℕ) → length (visits d k n m) ≡ length m
   unfolding visits
   length-visits zero m = refl
@@ -51,15 +46,10 @@ module _ (d : Drawing) (k : ℕ) where
   visits-add a (suc b) m = rw (add-suc, ← add-assoc k a b) (ap (visit d (k + a + b)) (visits-add a b m))
 
 -- ---- the first pixel of a drawing in a colour
-addressOf-first : (start cols pitch step : ℕ) → start < 2 ^ 32 → addressOf start cols pitch step 0 ≡ start
-unfolding addressOf
-addressOf-first start cols pitch step h =
-    ap₂ (λ (q r : ℕ). (start + q * pitch + r * step) % 2 ^ 32) (zero-div cols) (zero-mod cols) ∙ omega arith
-
-pub visits-first : (d : Drawing) → d .source ≡ Color → d .dest < 2 ^ 32 → (m : List ℕ)
-    → visits d 0 1 m ≡ plotted (d .pp) (d .t) (topOf (d .psize)) (d .pmask) (d .dest) (colorAt d (d .color1) (d .dest)) m
+pub visits-first : (d : Drawing) → d .source ≡ Color → d .dest .start < 2 ^ 32 → (m : List ℕ)
+    → visits d 0 1 m ≡ plotted (d .pp) (d .t) (topOf (d .psize)) (d .pmask) (d .dest .start) (colorAt d (d .color1) (d .dest .start)) m
 unfolding visits drawnAt
 visits-first d e h m =
     ap (λ (s : ℕ). plotted (d .pp) (d .t) (topOf (d .psize)) (d .pmask) (destOf d 0) s m) (source-color d (srcOf d 0) (destOf d 0) m e)
     ∙ ap (λ (a : ℕ). plotted (d .pp) (d .t) (topOf (d .psize)) (d .pmask) a (colorAt d (d .color1) a) m)
-    (addressOf-first (d .dest) (d .cols) (d .dpitch) (d .psize) h)
+    (addressOf-first (d .dest) (d .cols) h)

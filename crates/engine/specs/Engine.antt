@@ -1,18 +1,18 @@
--- A drawing as a walk over pixels (the scope, "Arrays, windows and slices"): pixels are visited row by row from the start, and each one reads
--- memory as the ones before left it. Assumes nothing.
+-- A drawing as a walk over pixels (the scope, "Arrays, windows and slices"): pixels are visited row
+-- by row from the start, and each one reads memory as the ones before left it. Assumes nothing.
 use mathlib.Core.List.{List}
 use Prim.Native.Nat.{ℕ, zero, suc, _+_, _-_, min}
 use Rattle.walk.specs.Walk.{addressOf}
 use Rattle.plot.specs.declared.Drawing.{Drawing}
-use Rattle.plot.specs.Drawing.{pixels, stepOf}
+use Rattle.plot.specs.Drawing.{pixels}
 use Rattle.row.specs.Row.{drawnAt}
 
 -- the addresses of pixel i and of its source
 abbrev pub destOf : Drawing → ℕ → ℕ
-destOf d i = addressOf (d .dest) (d .cols) (d .dpitch) (d .psize) i
+destOf d i = addressOf (d .dest) (d .cols) i
 
 abbrev pub srcOf : Drawing → ℕ → ℕ
-srcOf d i = addressOf (d .src) (d .cols) (d .spitch) (stepOf (d .source) (d .psize)) i
+srcOf d i = addressOf (d .src) (d .cols) i
 
 -- the memory after pixel i is visited
 abbrev pub visit : Drawing → ℕ → List ℕ → List ℕ

@@ -1,5 +1,6 @@
--- The bits of a drawing (the scope, "This serial rule decides"): a drawing may write the unmasked bits of its destination pixels; it reads
--- these, the source pixel bits that the destination's mask lets through, and every bit of a B source that it visits. Assumes nothing.
+-- The bits of a drawing (the scope, "This serial rule decides"): a drawing may write the unmasked
+-- bits of its destination pixels; it reads these, the source pixel bits that the destination's mask
+-- lets through, and every bit of a B source that it visits. Assumes nothing.
 use mathlib.Core.Path.{_≡_}
 use Prim.Native.Nat.{ℕ, _+_, _-_, _%_, _≤_, _<_}
 use Rattle.memory.specs.Bits.{bitOf}

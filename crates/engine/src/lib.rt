@@ -3,12 +3,14 @@ ghost use mathlib.Core.Path.{_≡_};
 ghost use Prim.Native.Nat.{_+_, _-_, _%_, _^_, _≤_, _<_, min};
 ghost use Rattle.walk.specs.Walk.{addressOf};
 ghost use Rattle.plot.specs.Drawing.{pixels};
-ghost use Rattle.engine.specs.Engine.{srcOf, destOf, visits, visitedFrom};
+ghost use Rattle.engine.specs.Engine.{visits, visitedFrom};
 use plot::Drawing;
+use walk::Walk;
 
 // The pixels from a place on are visited, at most a budget of them; the count of those visited.
 pub fn run(memory: &mut [u16], d: Drawing, place: u64, budget: u64) -> u64
-    ensures { λ r. ⌜ (r ≡ visitedFrom d place budget) × (now (memory .exit) ≡ visits d place (visitedFrom d place budget) (now (memory .entry))) ⌝ }
+    ensures { λ r. let n = visitedFrom d place budget in
+        ⌜ (r ≡ n) × (now (memory .exit) ≡ visits d place n (now (memory .entry))) ⌝ }
 {
     let left = left_from(plot::pixels(d), place);
     let count = least(budget, left);
@@ -32,8 +34,8 @@ fn visit_range(memory: &mut [u16], d: Drawing, k: u64, n: u64)
     ensures { λ _. ⌜ now (memory .exit) ≡ visits d k n (now (memory .entry)) ⌝ }
 {
     let count = piece(d.cols as u64, k, n);
-    let from = src_at(d, k);
-    let to = dest_at(d, k);
+    let from = pixel_at(d.src, d.cols, k);
+    let to = pixel_at(d.dest, d.cols, k);
     row::draw_row(memory, d, from, to, count);
     if count < n {
         visit_rows(memory, d, k + count, n - count);
@@ -46,14 +48,14 @@ fn visit_rows(memory: &mut [u16], d: Drawing, k: u64, n: u64)
     ensures { λ _. ⌜ now (memory .exit) ≡ visits d k n (now (memory .entry)) ⌝ }
 {
     let cols = d.cols as u64;
-    let mut from = src_at(d, k);
-    let mut to = dest_at(d, k);
+    let mut from = pixel_at(d.src, d.cols, k);
+    let mut to = pixel_at(d.dest, d.cols, k);
     let mut i: u64 = 0;
     while i < n {
         let count = least(cols, n - i);
         row::draw_row(memory, d, from, to, count);
-        from = std::num::wrapping_add_u32(from, d.spitch);
-        to = std::num::wrapping_add_u32(to, d.dpitch);
+        from = std::num::wrapping_add_u32(from, d.src.pitch);
+        to = std::num::wrapping_add_u32(to, d.dest.pitch);
         i += count;
     }
 }
@@ -74,32 +76,11 @@ fn piece(cols: u64, i: u64, left: u64) -> u64
     if left < room { left } else { room }
 }
 
-// The source of the i-th pixel.
-fn src_at(d: Drawing, i: u64) -> u32
-    requires { ⌜ (0 < d .cols) × (i < 2 ^ 32) ⌝ }
-    ensures { λ r. ⌜ r ≡ srcOf d i ⌝ }
-{
-    let source = d.source;
-    let step = plot::step_of(source, d.psize);
-    address_at(d.src, d.cols, d.spitch, step, i)
-}
-
-// The destination of the i-th pixel.
-fn dest_at(d: Drawing, i: u64) -> u32
-    requires { ⌜ (0 < d .cols) × (i < 2 ^ 32) ⌝ }
-    ensures { λ r. ⌜ r ≡ destOf d i ⌝ }
-{
-    address_at(d.dest, d.cols, d.dpitch, d.psize, i)
-}
-
-// The address of the i-th pixel of an array: cols pixels a row, rows pitch apart, pixels step apart.
-fn address_at(start: u32, cols: u16, pitch: u32, step: u16, i: u64) -> u32
+// The address of the i-th pixel of a walk: cols pixels a row.
+fn pixel_at(w: Walk, cols: u16, i: u64) -> u32
     requires { ⌜ (0 < cols) × (i < 2 ^ 32) ⌝ }
-    ensures { λ r. ⌜ r ≡ addressOf start cols pitch step i ⌝ }
+    ensures { λ r. ⌜ r ≡ addressOf w cols i ⌝ }
 {
     let wide = cols as u64;
-    let row = i / wide;
-    let col = i % wide;
-    let line = ((start as u64) + row * (pitch as u64) % 4294967296) % 4294967296;
-    ((line + col * (step as u64)) % 4294967296) as u32
+    walk::address_at(w, (i / wide) as u32, (i % wide) as u32)
 }

@@ -10,7 +10,8 @@ use Rattle.pixel.specs.PixelOp.{operations, processed}
 use Rattle.pixel.specs.Pixel.{pixelOf, result, pixelAfter, withPixel, wordAfter}
 use Rattle.address.specs.Address.{xyAddress, badXYPitch}
 use Rattle.windows.specs.Window.{common, clipped, vUnder}
-use Rattle.walk.specs.Walk.{addressOf, reaches, leavesMemory}
+use Rattle.walk.specs.Walk.{addressAt, addressOf}
+use Rattle.extent.specs.Extent.{reaches, leavesMemory}
 use Rattle.refusal.specs.Refusal.{lowest}
 use Rattle.lone.specs.Lone.{xyDestination}
 use Rattle.drav.specs.Drav.{dravOf}
@@ -24,8 +25,8 @@ use Rattle.figures.specs.Figures.{Figures}
 
 pub figures : Figures
 unfolding bitOf bitAt number refusal register fieldRead caseOf stepped any first anyPair badState latest lookup fetched operations
-    processed pixelOf result pixelAfter withPixel wordAfter xyAddress badXYPitch common clipped addressOf reaches leavesMemory
-    lowest xyDestination dravOf part vAfter vUnder destStart srcStart drawingOf refusalOf drawing.refusal outcomeAt outcome count
+    processed pixelOf result pixelAfter withPixel wordAfter xyAddress badXYPitch common clipped addressAt addressOf reaches
+    leavesMemory lowest xyDestination dravOf part vAfter vUnder destStart srcStart drawingOf refusalOf drawing.refusal outcomeAt outcome count
     indices
 figures =
     record {

@@ -18,7 +18,8 @@ use Rattle.address.specs.Coordinate.{xOf, yOf}
 use Rattle.address.specs.Address.{xyAddress}
 use Rattle.windows.specs.Window.{windowOf, clipped, vUnder}
 use Rattle.windows.specs.Kept.{kept}
-use Rattle.walk.specs.Walk.{leavesMemory}
+use Rattle.walk.specs.declared.Walk.{Walk}
+use Rattle.extent.specs.Extent.{leavesMemory}
 use Rattle.windows.specs.declared.Rectangle.{Rectangle}
 use Rattle.windows.specs.declared.Clipped.{Clipped}
 use Rattle.settings.specs.declared.Settings.{Settings}
@@ -49,6 +50,10 @@ array = record { x = xOf 0x004400E4; y = yOf 0x004400E4; cols = 0x3C; rows = 0x1
 
 abbrev pub clippedArray : Clipped
 clippedArray = clipped 3 array (windowOf 0x004900EB 0x005F0140)
+
+-- its walk, from the start that the figures give
+abbrev pub clippedWalk : Walk
+clippedWalk = record { start = 0x24BAC; pitch = 0x800; step = 4 }
 
 -- W=3, a window from 0,0 to 15,15, PSIZE 4, pitch 64
 abbrev pub windowed : Settings
@@ -113,8 +118,8 @@ pub record Figures : Type 0 where
   pub clip-v : (v : Bool) → vUnder 3 array (windowOf 0x004900EB 0x005F0140) v ≡ true
   pub clip-start : xyAddress 0 0x800 4 (kept array clippedArray .x) (kept array clippedArray .y)
       ≡ 0x24BAC
-  pub clip-enough : leavesMemory 11208 0x24BAC 53 15 0x800 4 ≡ false
-  pub clip-short : leavesMemory 11207 0x24BAC 53 15 0x800 4 ≡ true
+  pub clip-enough : leavesMemory 11208 clippedWalk 53 15 ≡ false
+  pub clip-short : leavesMemory 11207 clippedWalk 53 15 ≡ true
   -- as a FILL XY: 795 pixels, V=1, DADDR at the end 2C3ACh; with 11,207 words it is 17
   pub fill : outcome FillXY filling 0 false 795 11208
       ≡ record {

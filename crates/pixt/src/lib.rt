@@ -10,6 +10,7 @@ use lone::Lone;
 use plot::Drawing;
 use plot::Source;
 use settings::Settings;
+use walk::Walk;
 
 // The answer, 0 or the refusal's number; pixels visited; V and the request; the register's value
 // after a read; the settings as given.
@@ -78,11 +79,17 @@ pub fn draw(memory: &mut [u16], s: Settings, l: Lone, color: u16)
         let d = Drawing {
             cols: 1,
             rows: 1,
-            dest: l.address,
-            dpitch: 0,
+            dest: Walk {
+                start: l.address,
+                pitch: 0,
+                step: 0,
+            },
             source: Source::Color,
-            src: 0,
-            spitch: 0,
+            src: Walk {
+                start: 0,
+                pitch: 0,
+                step: 0,
+            },
             psize: s.psize,
             pp,
             t,

@@ -6,7 +6,8 @@ use mathlib.Core.Logic.{_⊎_, ⊎-elim}
 use Prim.Native.Nat.{ℕ, suc, _+_, _-_, _*_, _/_, _%_, _^_, _≤_, _<_, min}
 use native.Mathlib.Nat.{mod-lt, mod-eq-of-lt, add-mul, add-zero, zero-div, min-le-right}
 use native.Mathlib.Omega.{arith}
-use lib.Bits.{bitAnd, bitOr, bitXor, and-zero-r, and-mask, and-le-l, and-le-r, and-mod, and-block, xor-shr, xor-mod, or-disjoint, or-lt, or-zero-r}
+use lib.Bits.{bitAnd, bitOr, bitXor, and-zero-r, and-mask, and-le-l, and-le-r, and-mod, and-block}
+use lib.Bits.{xor-shr, xor-mod, or-disjoint, or-lt, or-zero-r}
 use lib.Dec.{eqb}
 use lib.Pow.{pow-pos, pow-mono, split, high, low, ones-split, ones-lt, lt-of-le-ones, suc-ones}
 use Rattle.memory.specs.Bits.{bitOf}
@@ -41,7 +42,8 @@ ones-at n k p h =
     ∙ ap (λ (y : ℕ). y % 2 ^ p) (ones-split (n - (k + p)) p)
     ∙ low (2 ^ (n - (k + p)) - 1) p (ones-lt p))
 
-pub complement-shifted : (p m a : ℕ) → p ≤ 16 → bitAnd (bitXor m (2 ^ 32 - 1) / 2 ^ (a % 16)) (2 ^ p - 1) ≡ complement (2 ^ p - 1) (pixelOf (2 ^ p - 1) m a)
+pub complement-shifted : (p m a : ℕ) → p ≤ 16
+    → bitAnd (bitXor m (2 ^ 32 - 1) / 2 ^ (a % 16)) (2 ^ p - 1) ≡ complement (2 ^ p - 1) (pixelOf (2 ^ p - 1) m a)
 unfolding pixelOf
 complement-shifted p m a h =
     and-mask (bitXor m (2 ^ 32 - 1) / 2 ^ (a % 16)) p
@@ -128,7 +130,8 @@ module _ (p pmask a w : ℕ) (hw : w < 2 ^ 16) where
       let r : ℕ = bitAnd x planes in
       let l : (bitAnd old mask + bitAnd old planes) * 2 ^ (a % 16) ≤ w = rw e old-le in
       ap (λ (y : ℕ). y % 2 ^ 16)
-      (ap₂ (λ (y v : ℕ). w - y * 2 ^ (a % 16) + v * 2 ^ (a % 16)) (sym e) (or-disjoint (bitAnd old mask) r (masked-disjoint p mask hm old x))
+      (ap₂ (λ (y v : ℕ). w - y * 2 ^ (a % 16) + v * 2 ^ (a % 16)) (sym e)
+      (or-disjoint (bitAnd old mask) r (masked-disjoint p mask hm old x))
       ∙ exchange w (2 ^ (a % 16)) (bitAnd old mask) (bitAnd old planes) r l
       ∙ ap (λ (y : ℕ). w - y + r * 2 ^ (a % 16)) (ap (λ (y : ℕ). y * 2 ^ (a % 16)) old-open ∙ sym (and-place w planes (a % 16))))
     where

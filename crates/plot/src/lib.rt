@@ -4,25 +4,32 @@ ghost use Prim.Native.Nat.{suc, _+_, _-_, _*_, _/_, _%_, _^_, _≤_, _<_, min, m
 ghost use lib.Bits.{bitAnd};
 ghost use Rattle.pixel.specs.PixelOp.{complement, processed};
 ghost use Rattle.pixel.specs.Pixel.{topOf, pixelOf, wordAfter};
-ghost use Rattle.plot.specs.Drawing.{pixels, stepOf};
+ghost use Rattle.plot.specs.Drawing.{pixels};
 ghost use Rattle.plot.specs.Word.{replaced};
+use walk::Walk;
 
-// What a destination pixel is drawn from: COLOR1, a source pixel, or one bit that chooses COLOR1 or COLOR0.
+// 2^16: words are less.
+const WORDS: u32 = 65536;
+
+// All 32 bits.
+const ONES: u32 = 4294967295;
+
+// What a destination pixel is drawn from: COLOR1, a source pixel, or one bit that chooses COLOR1 or
+// COLOR0.
 pub enum Source {
     Color,
     Pixels,
     Bits,
 }
 
-// A drawing, after the window: columns and rows, destination and source walks, and what is done to each pixel.
+// A drawing, after the window: columns and rows, destination and source walks, and what is done to
+// each pixel.
 pub struct Drawing {
     pub cols: u16,
     pub rows: u16,
-    pub dest: u32,
-    pub dpitch: u32,
+    pub dest: Walk,
     pub source: Source,
-    pub src: u32,
-    pub spitch: u32,
+    pub src: Walk,
     pub psize: u16,
     pub pp: u16,
     pub t: bool,
@@ -36,17 +43,6 @@ pub fn pixels(d: Drawing) -> u64
     ensures { λ r. ⌜ r ≡ pixels d ⌝ }
 {
     (d.cols as u64) * (d.rows as u64)
-}
-
-// From one source pixel to the next: PSIZE bits, or one bit of a B source.
-pub fn step_of(source: Source, psize: u16) -> u16
-    ensures { λ r. ⌜ r ≡ stepOf source psize ⌝ }
-{
-    match source {
-        Source::Color => 0,
-        Source::Pixels => psize,
-        Source::Bits => 1,
-    }
 }
 
 // A word at an address's place in it.
@@ -64,13 +60,15 @@ pub fn wide(word: u16) -> u32
 
 // The word after its pixel at an address is drawn from s, of which the pixel's bits count.
 pub fn word_after(d: Drawing, address: u32, s: u32, word: u16) -> u16
-    ensures { λ r. ⌜ r ≡ wordAfter (d .pp) (d .t) (topOf (d .psize)) (d .pmask) address (bitAnd s (topOf (d .psize))) word ⌝ }
+    ensures { λ r. let top = topOf (d .psize) in
+        ⌜ r ≡ wordAfter (d .pp) (d .t) top (d .pmask) address (bitAnd s top) word ⌝ }
 {
     let top = wide(pixel::top_of(d.psize));
     blend(d, top, address, s, word)
 }
 
-// The same, with the greatest pixel at hand. T: where the result is 0 nothing is written. T is tested first: the result is not to be guessed.
+// The same, with the greatest pixel at hand. T: where the result is 0 nothing is written. T is
+// tested first: the result is not to be guessed.
 fn blend(d: Drawing, top: u32, address: u32, s: u32, word: u16) -> u16
     requires { ⌜ top ≡ topOf (d .psize) ⌝ }
     ensures { λ r. ⌜ r ≡ wordAfter (d .pp) (d .t) top (d .pmask) address (bitAnd s top) word ⌝ }
@@ -92,7 +90,7 @@ fn planes_at(d: Drawing, top: u32, address: u32) -> u32
     requires { ⌜ top ≡ topOf (d .psize) ⌝ }
     ensures { λ r. ⌜ r ≡ complement top (pixelOf top (d .pmask) address) ⌝ }
 {
-    shifted(wide(d.pmask) ^ 4294967295, address) & top
+    shifted(wide(d.pmask) ^ ONES, address) & top
 }
 
 // The word with a result in the place of the enabled bits of its pixel at an address.
@@ -103,7 +101,7 @@ fn replace(word: u16, address: u32, planes: u32, result: u32) -> u16
     let shift = address % 16;
     let old = (word as u32) & (planes << shift);
     let kept = (word as u32) - old;
-    ((kept + (result << shift)) % 65536) as u16
+    ((kept + (result << shift)) % WORDS) as u16
 }
 
 // The operation PP, in the scope's order.

@@ -31,7 +31,8 @@ module _ (d : Drawing) (from to : ℕ) (m : List ℕ) where
   pub source-pixels : d .source ≡ Pixels → sourceAt d from to m ≡ pixelOf (topOf (d .psize)) (getD m (from / 16) 0) from
   source-pixels e = by-source e
 
-  pub source-bits : d .source ≡ Bits → sourceAt d from to m ≡ cond (eqb (bitAt m from) 1) (colorAt d (d .color1) to) (colorAt d (d .color0) to)
+  pub source-bits : d .source ≡ Bits
+      → sourceAt d from to m ≡ cond (eqb (bitAt m from) 1) (colorAt d (d .color1) to) (colorAt d (d .color0) to)
   source-bits e = by-source e
 
   -- the colour is chosen by the bit as a place in the list of the two

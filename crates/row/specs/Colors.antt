@@ -1,4 +1,5 @@
--- The two colours of a B source, as the loop over a row holds them. The scope knows nothing of it. Assumes nothing.
+-- The two colours of a B source, as the loop over a row holds them. The scope knows nothing of it.
+-- Assumes nothing.
 use mathlib.Core.List.{List, [], _∷_}
 use Prim.Native.Nat.{ℕ}
 use Rattle.plot.specs.declared.Drawing.{Drawing}

@@ -13,17 +13,14 @@ use plot::Source;
 pub fn draw_row(memory: &mut [u16], d: Drawing, src: u32, dest: u32, n: u64)
     ensures { λ _. ⌜ now (memory .exit) ≡ rowDrawn d src dest n (now (memory .entry)) ⌝ }
 {
-    let source = d.source;
-    let step = plot::wide(plot::step_of(source, d.psize));
-    let size = plot::wide(d.psize);
     let colors = colors_of(d);
     let mut from = src;
     let mut to = dest;
     let mut i: u64 = 0;
     while i < n {
         draw_at(memory, d, colors, from, to);
-        from = std::num::wrapping_add_u32(from, step);
-        to = std::num::wrapping_add_u32(to, size);
+        from = std::num::wrapping_add_u32(from, d.src.step);
+        to = std::num::wrapping_add_u32(to, d.dest.step);
         i += 1;
     }
 }
@@ -56,7 +53,8 @@ fn source_at(memory: &[u16], d: Drawing, colors: [u32; 2], from: u32, to: u32) -
     }
 }
 
-// The colour that a bit of a B source chooses. An array, as a test would be a branch that is often guessed wrong.
+// The colour that a bit of a B source chooses. An array, as a test would be a branch that is often
+// guessed wrong.
 fn color_at(memory: &[u16], colors: [u32; 2], from: u32) -> u32
     ensures { λ r. ⌜ r ≡ getD colors (bitAt (now (memory .entry)) from) 0 ⌝ }
 {

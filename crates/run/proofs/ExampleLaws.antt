@@ -7,7 +7,8 @@ use Rattle.pixel.specs.PixelOp.{operations, processed}
 use Rattle.pixel.specs.Pixel.{pixelOf, result, pixelAfter, withPixel, wordAfter, plotted}
 use Rattle.address.specs.Address.{xyAddress, badXYPitch}
 use Rattle.windows.specs.Window.{common, clipped, vUnder}
-use Rattle.walk.specs.Walk.{addressOf, reaches, leavesMemory}
+use Rattle.walk.specs.Walk.{addressAt, addressOf}
+use Rattle.extent.specs.Extent.{reaches, leavesMemory}
 use Rattle.settings.specs.Settings.{settingsOf}
 use Rattle.row.specs.Row.{sourceAt, drawnAt}
 use Rattle.engine.specs.Engine.{visits}
@@ -23,5 +24,5 @@ use Rattle.run.specs.Lines.{pointLines}
 use Rattle.run.specs.Example.{Example}
 
 pub example : Example
-unfolding bitOf bitAt differing changedBits stepped operations processed pixelOf result pixelAfter withPixel wordAfter plotted xyAddress badXYPitch common clipped addressOf reaches leavesMemory settingsOf sourceAt drawnAt visits part vAfter vUnder destStart srcStart drawingOf lowest refusalOf refusal outcomeAt outcome drawn count indices assigned experiment digits numbersLine ranOver pointLine pointLines
+unfolding bitOf bitAt differing changedBits stepped operations processed pixelOf result pixelAfter withPixel wordAfter plotted xyAddress badXYPitch common clipped addressAt addressOf reaches leavesMemory settingsOf sourceAt drawnAt visits part vAfter vUnder destStart srcStart drawingOf lowest refusalOf refusal outcomeAt outcome drawn count indices assigned experiment digits numbersLine ranOver pointLine pointLines
 example = refl

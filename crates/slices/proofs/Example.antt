@@ -11,7 +11,8 @@ use Rattle.pixel.specs.PixelOp.{operations, processed}
 use Rattle.pixel.specs.Pixel.{pixelOf, result, pixelAfter, withPixel, wordAfter, plotted}
 use Rattle.address.specs.Address.{xyAddress, badXYPitch}
 use Rattle.windows.specs.Window.{common, clipped, vUnder}
-use Rattle.walk.specs.Walk.{addressOf, reaches, leavesMemory}
+use Rattle.walk.specs.Walk.{addressAt, addressOf}
+use Rattle.extent.specs.Extent.{reaches, leavesMemory}
 use Rattle.row.specs.Row.{sourceAt, drawnAt}
 use Rattle.engine.specs.Engine.{visits}
 use Rattle.engine.specs.Footprint.{pixel-bit, source-bit}
@@ -73,7 +74,7 @@ copy =
 
 -- ---- their bits
 fill-writes : (a : ℕ) → Writes fill a → a < 12
-unfolding drawingOf part clipped common destStart xyAddress addressOf
+unfolding drawingOf part clipped common destStart xyAddress addressAt addressOf
 fill-writes a (i, h, t) = let z : a < (0 + i / 3 * 16 + i % 3 * 4) % 2 ^ 32 + 4 = t .to in omega arith
 
 fill-reads : (a : ℕ) → Reads fill a → ⊥
@@ -82,11 +83,11 @@ fill-reads a (i, h, pixel-bit t) = false≢true (ap copiesPixels (t .pixel))
 fill-reads a (i, h, source-bit t) = false≢true (ap copies (t .bits))
 
 copy-writes : (a : ℕ) → Writes copy a → 12 ≤ a
-unfolding drawingOf part destStart addressOf
+unfolding drawingOf part destStart addressAt addressOf
 copy-writes a (i, h, t) = let z : (12 + i / 2 * 16 + i % 2 * 4) % 2 ^ 32 ≤ a = t .from in omega arith
 
 copy-reads : (a : ℕ) → Reads copy a → 32 ≤ a
-unfolding drawingOf part srcStart addressOf
+unfolding drawingOf part srcStart addressAt addressOf
 copy-reads a (i, h, pixel-bit t) = let z : (32 + i / 2 * 16 + i % 2 * 4) % 2 ^ 32 ≤ a = t .from in omega arith
 copy-reads a (i, h, source-bit t) = absurd (true≢false (ap copiesPixels (t .bits)))
 
@@ -121,13 +122,14 @@ computed : (afterCalls fill copy false true m cs .memory ≡ 49151 ∷ 10 ∷ 17
     × (afterCalls fill copy false true m cs .held 1
     ≡ record { answer = 0; place = 2; v = true; request = false; saddr = 48; daddr = 28; dydx = 65538; settings = copy .settings })
 unfolding run next outcome outcomeAt drawn refusal refusalOf lowest vAfter vUnder drawingOf part destStart srcStart clipped
-    common xyAddress badXYPitch leavesMemory reaches addressOf visits drawnAt sourceAt plotted wordAfter withPixel pixelAfter result processed
-    operations pixelOf
+    common xyAddress badXYPitch leavesMemory reaches addressAt addressOf visits drawnAt sourceAt plotted wordAfter withPixel
+    pixelAfter result processed operations pixelOf
 computed = (refl, refl, refl)
 
 applied : OneThenOther 0 1 fill copy false true 3 9 m (afterCalls fill copy false true m cs)
     × OneThenOther 1 0 copy fill true false 9 3 m (afterCalls fill copy false true m cs)
-unfolding refusal refusalOf lowest drawingOf part destStart srcStart clipped common xyAddress badXYPitch leavesMemory reaches addressOf
+unfolding refusal refusalOf lowest drawingOf part destStart srcStart clipped common xyAddress badXYPitch leavesMemory
+    reaches addressAt addressOf
 applied =
     demand3 3 m good fill copy refl refl apart false true cs
     (omega arith, (omega arith, ((λ z. omega arith), (omega arith, (omega arith, (omega arith, (omega arith, tt)))))))

@@ -1,13 +1,18 @@
 -- The proofs of specs/Arrays.antt. Assumes nothing.
-use Rattle.walk.proofs.WalkLaws as walk
-use Rattle.theorems.specs.Arrays.{WalkInside, KeptIsVisited, PixelPlaces, OfArrays}
+use Rattle.address.proofs.CoordinateLaws as address
+use Rattle.extent.proofs.ExtentLaws as extent
+use Rattle.theorems.specs.Arrays.{CoordinateIsSigned, RegisterIsCoordinates, WalkInside, KeptIsVisited, PixelPlaces, OfArrays}
 use Rattle.theorems.proofs.PlaceLaws as place
 
+pub coordinate-is-signed : CoordinateIsSigned
+coordinate-is-signed = (address.coordinate-of-lt, address.coordinate-of-le)
+
+pub register-is-coordinates : RegisterIsCoordinates
+register-is-coordinates =
+    (address.registerOf-xOf-yOf, λ x y hx hy. (address.xOf-registerOf x y hx, address.yOf-registerOf x y hy))
+
 pub walk-inside : WalkInside
-walk-inside words start cols rows pitch step e = (
-  walk.lt-of-leavesMemory words start cols rows pitch step e,
-  walk.leavesMemory-of-lt words start cols rows pitch step,
-)
+walk-inside words w cols rows e = (extent.lt-of-leavesMemory words w cols rows e, extent.leavesMemory-of-lt words w cols rows)
 
 pub kept-is-visited : KeptIsVisited
 kept-is-visited op s = (place.visited-kept op s, place.kept-visited op s)
@@ -18,6 +23,8 @@ pixel-places op s k words e i h = (place.dest-place op s k words e i h, place.sr
 pub of-arrays : OfArrays
 of-arrays =
     record {
+      coordinate-is-signed = coordinate-is-signed;
+      register-is-coordinates = register-is-coordinates;
       walk-inside = walk-inside;
       kept-is-visited = kept-is-visited;
       pixel-places = pixel-places;

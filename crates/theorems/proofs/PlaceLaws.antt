@@ -11,35 +11,33 @@ use Rattle.address.specs.Coordinate.{xOf, yOf, negative}
 use Rattle.address.specs.Address.{xyAddress}
 use Rattle.windows.specs.Kept.{Pixel, kept}
 use Rattle.windows.specs.declared.Rectangle.{Rectangle}
-use Rattle.walk.specs.Walk.{addressOf}
+use Rattle.walk.specs.declared.Walk.{Walk}
+use Rattle.walk.specs.Walk.{addressAt, addressOf, startAt, moved}
+use Rattle.walk.proofs.WalkLaws.{addressAt-moved}
 use Rattle.settings.specs.declared.Settings.{Settings}
 use Rattle.plot.specs.declared.Source.{Source}
 use Rattle.plot.specs.declared.Source.the-variants.{Pixels}
-use Rattle.plot.specs.Drawing.{pixels, stepOf}
+use Rattle.plot.specs.Drawing.{pixels}
 use Rattle.engine.specs.Engine.{destOf, srcOf}
 use Rattle.operation.specs.declared.Operation.{Operation}
 use Rattle.operation.specs.declared.Operation.the-variants.{FillL, FillXY, PixbltLL, PixbltLXY, PixbltXYL, PixbltXYXY, PixbltBL, PixbltBXY}
 use Rattle.operation.specs.Operation.{toXY, fromXY, sourceOf, copiesPixels}
-use Rattle.arrays.specs.Array.{rectangleOf, part, startX, startY, destStart, srcStart, drawingOf, drawingFor}
+use Rattle.arrays.specs.Array.{rectangleOf, part, startX, startY, stepOf, linearSource, destStart, srcStart, drawingOf, drawingFor}
 use Rattle.array_refusal.specs.Refusal.{badDest, badSource, negativeStart, refusal}
 use Rattle.array_refusal.proofs.RefusalLaws.{passes}
 use Rattle.slices.proofs.FootLaws.{and-false, starts}
-use Rattle.theorems.specs.Arrays.{columnOf, rowOf, placeAt}
+use Rattle.theorems.specs.Arrays.{columnOf, rowOf, placeAt, destination}
 
--- ---- a walk from an address that lies some columns and rows from a start
-
-sum : (offset pitch step x y r c : ℕ)
-    → ((offset + y * pitch + x * step) % 2 ^ 32 + r * pitch + c * step) % 2 ^ 32 ≡ (offset + (y + r) * pitch + (x + c) * step) % 2 ^ 32
-sum offset pitch step x y r c = omega arith
-
+-- ---- a walk from an XY address: the address of a pixel's own X and Y
 walk-xy : (offset pitch psize x y cols i : ℕ) → 2 ^ 15 ≤ x → 2 ^ 15 ≤ y
-    → addressOf (xyAddress offset pitch psize x y) cols pitch psize i ≡ xyAddress offset pitch psize (x + i % cols) (y + i / cols)
+    → addressOf (record { start = xyAddress offset pitch psize x y; pitch = pitch; step = psize }) cols i
+    ≡ xyAddress offset pitch psize (x + i % cols) (y + i / cols)
 unfolding addressOf xyAddress
 walk-xy offset pitch psize x y cols i hx hy =
     let ex : x - 2 ^ 15 + i % cols ≡ x + i % cols - 2 ^ 15 = omega arith in
     let ey : y - 2 ^ 15 + i / cols ≡ y + i / cols - 2 ^ 15 = omega arith in
-    sum offset pitch psize (x - 2 ^ 15) (y - 2 ^ 15) (i / cols) (i % cols)
-    ∙ ap₂ (λ (a b : ℕ). (offset + a * pitch + b * psize) % 2 ^ 32) ey ex
+    let w : Walk = record { start = offset; pitch = pitch; step = psize } in
+    addressAt-moved w (y - 2 ^ 15) (x - 2 ^ 15) (i / cols) (i % cols) ∙ ap₂ (addressAt w) ey ex
 
 -- ---- row by row: the column and row of pixel i, and the number of a column and row
 
@@ -92,8 +90,8 @@ not-negative x y e = (
   ltb-false y (2 ^ 15) (or-false-right (negative x) (negative y) e),
 )
 
-module _ (op : Operation) (s : Settings) (place words : ℕ) (e : refusal op s place words ≡ 0) (i : ℕ)
-    (h : i < pixels (drawingFor op s)) where
+module _ (op : Operation) (s : Settings) (place words : ℕ) (e : refusal op s place words ≡ 0)
+    (i : ℕ) (h : i < pixels (drawingFor op s)) where
   abbrev badTo : Bool
   badTo = badDest op s (part op s) (drawingFor op s)
 
@@ -114,39 +112,41 @@ module _ (op : Operation) (s : Settings) (place words : ℕ) (e : refusal op s p
 
   -- the walk of an XY array whose start is not negative
   walk-place : (start pitch : ℕ) → negativeStart start (part op s) ≡ false
-      → addressOf (xyAddress (s .offset) pitch (s .psize) (startX start (part op s)) (startY start (part op s))) cols pitch (s .psize) i
+      → addressOf
+      (record {
+        start = xyAddress (s .offset) pitch (s .psize) (startX start (part op s)) (startY start (part op s));
+        pitch = pitch;
+        step = s .psize;
+      })
+      cols i
       ≡ xyAddress (s .offset) pitch (s .psize) (xOf start + columnOf op s i) (yOf start + rowOf op s i)
   walk-place start pitch n =
       let p = not-negative (startX start (part op s)) (startY start (part op s)) n in
       walk-xy (s .offset) pitch (s .psize) (startX start (part op s)) (startY start (part op s)) cols i (p .0) (p .1)
-      ∙ ap₂ (λ (x y : ℕ). xyAddress (s .offset) pitch (s .psize) x y) (add-assoc (xOf start) left (i % cols))
-      (add-assoc (yOf start) above (i / cols))
+      ∙ ap₂ (λ (x y : ℕ). xyAddress (s .offset) pitch (s .psize) x y)
+      (add-assoc (xOf start) left (i % cols)) (add-assoc (yOf start) above (i / cols))
 
-  linear-place : toXY op ≡ false
-      → addressOf (s .daddr) cols (s .dptch) (s .psize) i ≡ (s .daddr + rowOf op s i * s .dptch + columnOf op s i * s .psize) % 2 ^ 32
+  linear-place : toXY op ≡ false → addressOf (destination s) cols i ≡ addressAt (destination s) (rowOf op s i) (columnOf op s i)
   unfolding addressOf
   linear-place q =
       let r : i / cols ≡ rowOf op s i = omega (arith, linear-above op s q) in
       let c : i % cols ≡ columnOf op s i = omega (arith, linear-left op s q) in
-      ap₂ (λ (y x : ℕ). (s .daddr + y * s .dptch + x * s .psize) % 2 ^ 32) r c
+      ap₂ (addressAt (destination s)) r c
 
-  pub dest-place : destOf (drawingFor op s) i
-      ≡ placeAt (toXY op) (s .offset) (s .daddr) (s .dptch) (s .psize) (columnOf op s i) (rowOf op s i)
+  pub dest-place : destOf (drawingFor op s) i ≡ placeAt (toXY op) (s .offset) (destination s) (columnOf op s i) (rowOf op s i)
   unfolding drawingOf destStart
   dest-place = go (toXY op) refl
     where
       go : (t : Bool) → toXY op ≡ t
-          → addressOf (cond t (xyAddress (s .offset) (s .dptch) (s .psize) (startX (s .daddr) (part op s)) (startY (s .daddr) (part op s)))
-          (s .daddr)) cols (s .dptch) (s .psize) i
-          ≡ placeAt t (s .offset) (s .daddr) (s .dptch) (s .psize) (columnOf op s i) (rowOf op s i)
+          → addressOf
+          (startAt (destination s)
+          (cond t (xyAddress (s .offset) (s .dptch) (s .psize) (startX (s .daddr) (part op s)) (startY (s .daddr) (part op s))) (s .daddr)))
+          cols i
+          ≡ placeAt t (s .offset) (destination s) (columnOf op s i) (rowOf op s i)
       go true q =
           walk-place (s .daddr) (s .dptch)
           (and-false (toXY op) _ q (or-false-left (toXY op && negativeStart (s .daddr) (part op s)) _ (or-false-left badTo badFrom good)))
       go false q = linear-place q
-
-  -- from one source pixel to the next
-  abbrev step : ℕ
-  step = stepOf (sourceOf op) (s .psize)
 
   -- an XY source's start is not negative, and its pixels are PSIZE apart
   xy-source : fromXY op ≡ true → negativeStart (s .saddr) (part op s) ≡ false
@@ -155,27 +155,25 @@ module _ (op : Operation) (s : Settings) (place words : ℕ) (e : refusal op s p
       (or-false-left (fromXY op && negativeStart (s .saddr) (part op s)) _
       (and-false (copiesPixels (sourceOf op)) _ (ap copiesPixels (xy-pixels op q)) (or-false-right badTo badFrom good)))
 
-  linear-source : addressOf ((s .saddr + above * s .sptch + left * step) % 2 ^ 32) cols (s .sptch) step i
-      ≡ (s .saddr + rowOf op s i * s .sptch + columnOf op s i * step) % 2 ^ 32
+  linear-source : addressOf (moved (linearSource op s) above left) cols i ≡ addressAt (linearSource op s) (rowOf op s i) (columnOf op s i)
   unfolding addressOf
-  linear-source = sum (s .saddr) (s .sptch) step left above (i / cols) (i % cols)
+  linear-source = addressAt-moved (linearSource op s) above left (i / cols) (i % cols)
 
-  pub src-place : srcOf (drawingFor op s) i ≡ placeAt (fromXY op) (s .offset) (s .saddr) (s .sptch) step (columnOf op s i) (rowOf op s i)
+  pub src-place : srcOf (drawingFor op s) i ≡ placeAt (fromXY op) (s .offset) (linearSource op s) (columnOf op s i) (rowOf op s i)
   unfolding drawingOf srcStart
   src-place = go (fromXY op) refl
     where
+      -- where an XY source starts
+      start : ℕ
+      start = xyAddress (s .offset) (s .sptch) (s .psize) (startX (s .saddr) (part op s)) (startY (s .saddr) (part op s))
+
       go : (t : Bool) → fromXY op ≡ t
-          → addressOf
-          (cond t
-          (xyAddress (s .offset) (s .sptch) (s .psize) (startX (s .saddr) (part op s)) (startY (s .saddr) (part op s)))
-          ((s .saddr + above * s .sptch + left * step) % 2 ^ 32))
-          cols (s .sptch) step i
-          ≡ placeAt t (s .offset) (s .saddr) (s .sptch) step (columnOf op s i) (rowOf op s i)
+          → addressOf (startAt (linearSource op s) (cond t start (addressAt (linearSource op s) above left))) cols i
+          ≡ placeAt t (s .offset) (linearSource op s) (columnOf op s i) (rowOf op s i)
       go true q =
           subst
           (λ (x : Source).
-          addressOf (xyAddress (s .offset) (s .sptch) (s .psize) (startX (s .saddr) (part op s)) (startY (s .saddr) (part op s))) cols
-          (s .sptch) (stepOf x (s .psize)) i
+          addressOf (record { start = start; pitch = s .sptch; step = stepOf x (s .psize) }) cols i
           ≡ xyAddress (s .offset) (s .sptch) (stepOf x (s .psize)) (xOf (s .saddr) + columnOf op s i) (yOf (s .saddr) + rowOf op s i))
           (sym (xy-pixels op q)) (walk-place (s .saddr) (s .sptch) (xy-source q))
       go false q = linear-source

@@ -12,7 +12,7 @@ use Rattle.windows.specs.Window.{windowOf, empty, inside, common, meet, nothing
 use Rattle.windows.specs.Window as window
 use Rattle.windows.specs.declared.Rectangle.{Rectangle}
 use Rattle.windows.specs.declared.Window.{Window}
-use Rattle.address.proofs.Arithmetic.{positive-left, positive-right}
+use Rattle.walk.proofs.Arithmetic.{positive-left, positive-right}
 use Rattle.windows.proofs.WindowLaws.{filled-of-pixel, seen-of-inside, inside-of-seen, meet-of-pixel, pixel-of-meet}
 use Rattle.windows.proofs.WindowLaws.{pixel-of-common, seen-of-common}
 use Rattle.settings.specs.declared.Settings.{Settings}

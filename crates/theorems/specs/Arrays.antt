@@ -3,19 +3,37 @@
 use mathlib.Core.Path.{_≡_}
 use mathlib.Core.Bool.{Bool, false, cond}
 use mathlib.Core.Logic.{_↔_}
-use Prim.Native.Nat.{ℕ, _+_, _*_, _/_, _%_, _^_, _<_}
+use Prim.Native.Nat.{ℕ, _+_, _*_, _/_, _%_, _^_, _≤_, _<_}
 use Rattle.memory.specs.Bits.{noMemory}
-use Rattle.address.specs.Coordinate.{xOf, yOf}
+use Rattle.address.specs.Coordinate.{coordinate, xOf, yOf, registerOf}
 use Rattle.address.specs.Address.{xyAddress}
 use Rattle.windows.specs.Kept.{Pixel, kept}
-use Rattle.walk.specs.Walk.{addressOf, leavesMemory}
+use Rattle.walk.specs.declared.Walk.{Walk}
+use Rattle.walk.specs.Walk.{addressAt, addressOf}
+use Rattle.extent.specs.Extent.{leavesMemory}
 use Rattle.settings.specs.declared.Settings.{Settings}
-use Rattle.plot.specs.Drawing.{pixels, stepOf}
+use Rattle.plot.specs.Drawing.{pixels}
 use Rattle.engine.specs.Engine.{destOf, srcOf}
 use Rattle.operation.specs.declared.Operation.{Operation}
-use Rattle.operation.specs.Operation.{toXY, fromXY, sourceOf}
-use Rattle.arrays.specs.Array.{rectangleOf, part, drawingFor}
+use Rattle.operation.specs.Operation.{toXY, fromXY}
+use Rattle.arrays.specs.Array.{rectangleOf, part, linearSource, drawingFor}
 use Rattle.array_refusal.specs.Refusal.{refusal}
+
+-- ---- coordinates
+
+-- A half stands for the signed number that it is in two's complement: below 2^15 for itself, from 2^15
+-- on for itself less 2^16. Its coordinate is that number plus 2^15.
+abbrev pub CoordinateIsSigned : Type 0
+CoordinateIsSigned =
+    ((half : ℕ) → half < 2 ^ 15 → coordinate half ≡ half + 2 ^ 15)
+    × ((half : ℕ) → 2 ^ 15 ≤ half → half < 2 ^ 16 → coordinate half + 2 ^ 16 ≡ half + 2 ^ 15)
+
+-- A register and its two coordinates correspond: taken apart and put together it is itself, and each
+-- two coordinates are those of their register.
+abbrev pub RegisterIsCoordinates : Type 0
+RegisterIsCoordinates =
+    ((xy : ℕ) → xy < 2 ^ 32 → registerOf (xOf xy) (yOf xy) ≡ xy)
+    × ((x y : ℕ) → x < 2 ^ 16 → y < 2 ^ 16 → (xOf (registerOf x y) ≡ x) × (yOf (registerOf x y) ≡ y))
 
 -- ---- walks
 
@@ -23,9 +41,9 @@ use Rattle.array_refusal.specs.Refusal.{refusal}
 -- visits only such is not refused.
 abbrev pub WalkInside : Type 0
 WalkInside =
-    (words start cols rows pitch step : ℕ) → noMemory words ≡ false
-    → (leavesMemory words start cols rows pitch step ≡ false)
-    ↔ ((i : ℕ) → i < cols * rows → addressOf start cols pitch step i < 16 * words)
+    (words : ℕ) (w : Walk) (cols rows : ℕ) → noMemory words ≡ false
+    → (leavesMemory words w cols rows ≡ false)
+    ↔ ((i : ℕ) → i < cols * rows → addressOf w cols i < 16 * words)
 
 -- ---- the pixels of a drawing, by columns and rows of the array that its
 -- settings give, before the window
@@ -40,11 +58,15 @@ rowOf op s i = part op s .above + i / part op s .cols
 
 -- the address so many columns and rows from an array's start: of an XY array that of its own X and
 -- Y, else as the pitch and the step say
-abbrev pub placeAt : Bool → ℕ → ℕ → ℕ → ℕ → ℕ → ℕ → ℕ
-placeAt xy offset start pitch step column row =
+abbrev pub placeAt : Bool → ℕ → Walk → ℕ → ℕ → ℕ
+placeAt xy offset w column row =
     cond xy
-    (xyAddress offset pitch step (xOf start + column) (yOf start + row))
-    ((start + row * pitch + column * step) % 2 ^ 32)
+    (xyAddress offset (w .pitch) (w .step) (xOf (w .start) + column) (yOf (w .start) + row))
+    (addressAt w row column)
+
+-- the destination that settings give, with the start that its register holds
+abbrev pub destination : Settings → Walk
+destination s = record { start = s .daddr; pitch = s .dptch; step = s .psize }
 
 -- The pixels visited are those that the window keeps: each one visited is kept,
 -- and each one kept is visited.
@@ -66,14 +88,14 @@ PixelPlaces =
     (op : Operation) (s : Settings) (place words : ℕ) → refusal op s place words ≡ 0
     → (i : ℕ) → i < pixels (drawingFor op s)
     → (destOf (drawingFor op s) i
-    ≡ placeAt (toXY op) (s .offset) (s .daddr) (s .dptch) (s .psize)
-    (columnOf op s i) (rowOf op s i))
+    ≡ placeAt (toXY op) (s .offset) (destination s) (columnOf op s i) (rowOf op s i))
     × (srcOf (drawingFor op s) i
-    ≡ placeAt (fromXY op) (s .offset) (s .saddr) (s .sptch) (stepOf (sourceOf op) (s .psize))
-    (columnOf op s i) (rowOf op s i))
+    ≡ placeAt (fromXY op) (s .offset) (linearSource op s) (columnOf op s i) (rowOf op s i))
 
 -- every statement of this file
 pub record OfArrays : Type 0 where
+  pub coordinate-is-signed : CoordinateIsSigned
+  pub register-is-coordinates : RegisterIsCoordinates
   pub walk-inside : WalkInside
   pub kept-is-visited : KeptIsVisited
   pub pixel-places : PixelPlaces

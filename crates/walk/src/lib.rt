@@ -1,39 +1,31 @@
-// Walks.
+// Walks: a start, and how far it is from row to row and from pixel to pixel, all modulo 2^32.
 ghost use mathlib.Core.Path.{_≡_};
-ghost use Prim.Native.Nat.{_-_, _*_, _^_, _<_, _≤_};
-ghost use Rattle.walk.specs.Walk.{addressOf, reaches, leavesMemory};
+ghost use Prim.Native.Nat.{_*_, _%_, _^_};
+ghost use Rattle.walk.specs.Walk.{addressAt};
 
-// Refusal 17 of a walk: does some pixel's address lie at the end of memory or beyond?
-pub fn leaves_memory(words: usize, start: u32, cols: u16, rows: u16, pitch: u32, step: u16) -> bool
-    ensures { λ r. ⌜ r ≡ leavesMemory words start cols rows pitch step ⌝ }
-{
-    if memory::no_memory(words) {
-        return false;
-    }
-    if (cols == 0) | (rows == 0) {
-        return false;
-    }
-    reaches_limit(16 * words as u64, start, cols, rows, pitch, step)
+// 2^32: addresses are less.
+pub const ADDRESSES: u64 = 4294967296;
+
+// Where an array is walked: its first pixel's address, from one row to the next, and from one pixel
+// to the next. A pitch or step of 2^32 less something walks down.
+pub struct Walk {
+    pub start: u32,
+    pub pitch: u32,
+    pub step: u32,
 }
 
-// The same for a limit. With a pitch up to 2^31 addresses rise, and the last pixel has the greatest; with a greater one rows fall by what it
-// lacks of 2^32, the first row has the greatest addresses, and the last one must not fall below 0.
-fn reaches_limit(limit: u64, start: u32, cols: u16, rows: u16, pitch: u32, step: u16) -> bool
-    requires { ⌜ (limit ≤ 2 ^ 24) × (0 < cols) × (0 < rows) ⌝ }
-    ensures { λ r. ⌜ r ≡ reaches (addressOf start cols pitch step) limit (cols * rows) ⌝ }
+// The address at a row and a column of a walk.
+pub fn address_at(w: Walk, row: u32, column: u32) -> u32
+    ensures { λ r. ⌜ r ≡ addressAt w row column ⌝ }
 {
-    let from = start as u64;
-    let across = last_of(cols, step as u64);
-    if pitch <= 2147483648 {
-        return limit <= from + last_of(rows, pitch as u64) + across;
-    }
-    (limit <= from + across) | (from < last_of(rows, 4294967296 - pitch as u64))
+    let down = times(row, w.pitch);
+    let across = times(column, w.step);
+    std::num::wrapping_add_u32(std::num::wrapping_add_u32(w.start, down), across)
 }
 
-// How far the last of n places lies from the first.
-fn last_of(n: u16, distance: u64) -> u64
-    requires { ⌜ (0 < n) × (distance < 2 ^ 32) ⌝ }
-    ensures { λ r. ⌜ (r ≡ (n - 1) * distance) × (r < 2 ^ 48) ⌝ }
+// So many times a distance.
+fn times(n: u32, distance: u32) -> u32
+    ensures { λ r. ⌜ r ≡ n * distance % 2 ^ 32 ⌝ }
 {
-    (n - 1) as u64 * distance
+    (n as u64 * distance as u64 % ADDRESSES) as u32
 }

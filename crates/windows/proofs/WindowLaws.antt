@@ -6,7 +6,7 @@ use Prim.Native.Nat.{ℕ, suc, _+_, _-_, _≤_, _<_, max}
 use native.Mathlib.Omega.{arith}
 use borrow.Author.Tests.{eq-eqb, ne-eqb, eqb-true, leb-true, le-leb, not-true}
 use lib.Dec.{eqb, leb}
-use Rattle.address.proofs.Arithmetic.{positive-left, positive-right}
+use Rattle.walk.proofs.Arithmetic.{positive-left, positive-right}
 use Rattle.windows.specs.declared.Rectangle.{Rectangle}
 use Rattle.windows.specs.declared.Window.{Window}
 use Rattle.windows.specs.declared.Clipped.{Clipped}

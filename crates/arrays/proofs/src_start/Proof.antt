@@ -1,49 +1,36 @@
--- `src_start` meets its contract. Assumes nothing.
-use mathlib.Core.Path.{_≡_, sym, ap, _∙_}
-use Rattle.arrays.specs.Array.{srcStart}
+-- `src_start` meets its contract: an XY start, or a linear one moved. Assumes nothing.
+use mathlib.Core.Path.{sym}
 use borrow.Author.Needs.{needs}
+use Rattle.arrays.specs.Array.{srcStart}
 use Rattle.arrays.proofs.src_start.Statement.{statement}
 use Rattle.arrays.proofs.src_start.Tie as tie
 
-from-xy-requires : tie.Need-from-xy-requires
-from-xy-requires c κs = search needs
-
-start-x-requires : tie.Need-start-x-requires
-start-x-requires c κs = search needs
-
-start-y-requires : tie.Need-start-y-requires
-start-y-requires c κs = search needs
-
-xy-address-requires : tie.Need-xy-address-requires
-xy-address-requires c κs = search needs
-
 returns : tie.Need-returns
 unfolding srcStart
-returns c = rw (sym (c .before .before .before .before .from-xy .ensures), c .before .before .before .if1 .taken, c .xy-address .ensures, c .before .start-y .ensures, c .before .before .start-x .ensures)
-
-source-of-requires : tie.Need-source-of-requires
-source-of-requires c κs = search needs
-
-step-of-requires : tie.Need-step-of-requires
-step-of-requires c κs = search needs
-
-moved-requires : tie.Need-moved-requires
-moved-requires c κs = search needs
+returns c =
+    let x = c .before .before in
+    let xy = x .before in
+    rw (sym (xy .before .from-xy .ensures), xy .if1 .taken, c .xy-address .ensures, c .before .start-y .ensures, x .start-x .ensures)
 
 returns-2 : tie.Need-returns-2
 unfolding srcStart
-returns-2 c = rw (sym (c .before .before .before .before .from-xy .ensures), c .before .before .before .if1 .left, c .moved .ensures, c .before .step-of .ensures, c .before .before .source-of .ensures)
+returns-2 c =
+    let known = c .before .before in
+    let source = known .before in
+    let linear = source .before in
+    rw (sym (linear .before .from-xy .ensures), linear .if1 .left, c .address-at .ensures, source .linear-source .ensures)
 
 pub src-start-spec : {M : Type 1} → statement M
 src-start-spec =
     tie.close
     (tie.spec
-    from-xy-requires
-    start-x-requires
-    start-y-requires
-    xy-address-requires
+    (λ c κs. search needs)
+    (λ c κs. search needs)
+    (λ c κs. search needs)
+    (λ c κs. search needs)
     returns
-    source-of-requires
-    step-of-requires
-    moved-requires
+    (λ c κs. search needs)
+    (λ c. search needs)
+    (λ c. search needs)
+    (λ c κs. search needs)
     returns-2)

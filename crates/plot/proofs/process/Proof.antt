@@ -119,7 +119,9 @@ returns-22 c = rw (c .before .match .keys22, c .lesser .ensures)
 
 returns-23 : tie.Need-returns-23
 unfolding processed operations
-returns-23 c = sym (List·getD-eq-default (operations (c .before .args .top) (c .before .args .s) (c .before .args .d)) 0 (past 22 (c .before .args .w .pp) (c .match .rest)))
+returns-23 c =
+    let a = c .before .args in
+    sym (List·getD-eq-default (operations (a .top) (a .s) (a .d)) 0 (past 22 (a .w .pp) (c .match .rest)))
 
 pub process-spec : {M : Type 1} → statement M
 process-spec =

@@ -10,55 +10,35 @@ use Rattle.row.proofs.draw_row.Statement.{statement}
 use Rattle.row.proofs.draw_row.Tie as tie
 
 abbrev Inv-loop : tie.InvT-loop
-Inv-loop memory₀ d src dest n step size colors from₀ to₀ i₀ memory from to i = Drawn memory₀ d src dest n step size colors memory from to i
+Inv-loop memory₀ d src dest n colors from₀ to₀ i₀ memory from to i = Drawn memory₀ d src dest n colors memory from to i
 
 abbrev μ-loop : tie.MeasureT-loop
-μ-loop memory₀ d src dest n step size colors from₀ to₀ i₀ memory from to i = n - i
-
-step-of-requires : tie.Need-step-of-requires Inv-loop μ-loop
-step-of-requires c κs = search needs
-
-wide-requires : tie.Need-wide-requires Inv-loop μ-loop
-wide-requires c κs = search needs
-
-wide-requires-2 : tie.Need-wide-requires-2 Inv-loop μ-loop
-wide-requires-2 c κs = search needs
-
-colors-of-requires : tie.Need-colors-of-requires Inv-loop μ-loop
-colors-of-requires c κs = search needs
+μ-loop memory₀ d src dest n colors from₀ to₀ i₀ memory from to i = n - i
 
 loop-holds : tie.Need-loop-holds Inv-loop μ-loop
-loop-holds c =
-    none-drawn (c .colors-of .ensures) (c .before .before .wide .ensures ∙ c .before .before .before .step-of .ensures) (c .before .wide2 .ensures) (search needs) (search needs)
+loop-holds c = none-drawn (c .colors-of .ensures) (search needs) (search needs)
 
 draw-at-requires : tie.Need-draw-at-requires Inv-loop μ-loop
-draw-at-requires c κs = c .before .before .loop .inv .colors-is
-
-wrapping-add-u32-requires : tie.Need-wrapping-add-u32-requires Inv-loop μ-loop
-wrapping-add-u32-requires c κs = search needs
-
-wrapping-add-u32-requires-2 : tie.Need-wrapping-add-u32-requires-2 Inv-loop μ-loop
-wrapping-add-u32-requires-2 c κs = search needs
-
-add-i : tie.Need-add-i Inv-loop μ-loop
-add-i c = search needs
-
-loop-less : tie.Need-loop-less Inv-loop μ-loop
-loop-less c = search needs
+draw-at-requires c κs = let l = c .before .before in l .loop .inv .colors-is
 
 loop-again : tie.Need-loop-again Inv-loop μ-loop
 loop-again c =
-    next-drawn (c .before .before .before .before .before .before .before .loop .inv) (c .before .before .before .before .before .before .loop-test .taken)
-    (c .before .before .before .before .draw-at .ensures) (c .before .wrapping-add-u32 .ensures) (c .wrapping-add-u322 .ensures)
+    let from = c .before in
+    let drawn = from .before .before .before in
+    let test = drawn .before .before in
+    next-drawn (test .before .loop .inv) (test .loop-test .taken) (drawn .draw-at .ensures)
+    (from .wrapping-add-u32 .ensures) (c .wrapping-add-u322 .ensures)
 
 same-length : tie.Need-same-length Inv-loop μ-loop
 same-length c = ap length (c .before .loop .inv .drawn) ∙ length-rowDrawn _ _ _ _ _
 
 returns : tie.Need-returns Inv-loop μ-loop
 returns c =
-    let a = c .before .before .before .before .before .before .before .args in
-    let e : c .before .loop .i ≡ a .n = omega (arith, c .before .loop .inv .bound, c .loop-test .left) in
-    c .before .loop .inv .drawn ∙ ap (λ (j : ℕ). rowDrawn (a .d) (a .src) (a .dest) j (a .memory .now)) e
+    let l = c .before in
+    let colors = l .before in
+    let a = colors .before .before .args in
+    let e : l .loop .i ≡ a .n = omega (arith, l .loop .inv .bound, c .loop-test .left) in
+    l .loop .inv .drawn ∙ ap (λ (j : ℕ). rowDrawn (a .d) (a .src) (a .dest) j (a .memory .now)) e
 
 pub draw-row-spec : {M : Type 1} → statement M
 draw-row-spec =
@@ -66,16 +46,13 @@ draw-row-spec =
     (tie.spec
     Inv-loop
     μ-loop
-    step-of-requires
-    wide-requires
-    wide-requires-2
-    colors-of-requires
+    (λ c κs. search needs)
     loop-holds
     draw-at-requires
-    wrapping-add-u32-requires
-    wrapping-add-u32-requires-2
-    add-i
-    loop-less
+    (λ c κs. search needs)
+    (λ c κs. search needs)
+    (λ c. search needs)
+    (λ c. search needs)
     loop-again
     same-length
     returns)
