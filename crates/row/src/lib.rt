@@ -30,9 +30,9 @@ fn draw_at(memory: &mut [u16], d: Drawing, colors: [u32; 2], from: u32, to: u32)
     requires { ⌜ colors ≡ colorsOf d ⌝ }
     ensures { λ _. ⌜ now (memory .exit) ≡ drawnAt d from to (now (memory .entry)) ⌝ }
 {
-    let s = source_at(memory, d, colors, from, to);
     let at = (to / 16) as usize;
     if at < memory.len() {
+        let s = source_at(memory, d, colors, from, to);
         memory[at] = plot::word_after(d, to, s, memory[at]);
     }
 }
