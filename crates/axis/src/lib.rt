@@ -58,7 +58,7 @@ pub fn store_values(line: &[u8], table: &mut [u64], at: usize) -> u64
         if line.len() < p {
             return (i - at) as u64;
         }
-        let end = text::part_end(line, p, 9);
+        let end = text::part_end(line, p, ascii::TAB);
         table[i] = tabs::field_value(&line[p..end]);
         i += 1;
         p = end + 1;
@@ -74,7 +74,7 @@ fn bad_form(line: &[u8], bad: bool) -> bool
     if line.len() < tabs::third_at(line) {
         return true;
     }
-    let other = !text::same(text::part(line, 0, 9), b"axis");
+    let other = !text::same(text::part(line, 0, ascii::TAB), b"axis");
     let empty = tabs::second(line).len() == 0;
     other | empty | bad
 }

@@ -47,5 +47,5 @@ fn size_of(n: u64) -> u64
 fn is_pair(line: &[u8], word: &[u8]) -> bool
     ensures { λ r. ⌜ r ≡ isPair (now (word .entry)) (fieldsOf (now (line .entry))) ⌝ }
 {
-    (tabs::count(line, 0) == 2) & text::same(text::part(line, 0, 9), word)
+    (tabs::count(line, 0) == 2) & text::same(text::part(line, 0, ascii::TAB), word)
 }

@@ -1,4 +1,5 @@
--- The kit's decimal digits, of which there are as few as can be, are those of `specs/Listing.antt`. No contract cites this file. Assumes nothing.
+-- The kit's decimal digits, of which there are as few as can be, are those of `specs/Listing.antt`. No contract cites this file.
+-- Assumes nothing.
 use mathlib.Core.Path.{_≡_, refl, ap, _∙_}
 use Prim.Native.Nat.{ℕ, zero, suc, _-_, _/_, _%_, _^_, _≤_, _<_}
 use native.Mathlib.Nat.{pow-suc, mod-eq-of-lt}
@@ -7,7 +8,7 @@ use borrow.Author.Tests.{lt-ltb}
 use lib.ListN.{length, length-append}
 use Rattle.io.specs.Digits.{Fewest}
 use Rattle.io.specs.Digits.{digits as io·digits}
-use Rattle.listing.specs.Listing.{digits, decimal}
+use Rattle.listing.specs.Listing.{digits, mostDigits, decimal}
 use Rattle.listing.proofs.ListingLaws.{digits-small, digits-large}
 
 pow-ten-pos : (k : ℕ) → 0 < 10 ^ k
@@ -26,7 +27,7 @@ fewest-tenth r n f = (
 )
 
 -- the kit's fewest digits are ours
-pub digits-fewest : (k r n : ℕ) → r ≤ k → Fewest 10 1 n r → digits k n ≡ io·digits 10 r n
+digits-fewest : (k r n : ℕ) → r ≤ k → Fewest 10 1 n r → digits k n ≡ io·digits 10 r n
 digits-fewest zero r n h f = absurd (omega arith)
 digits-fewest (suc k) zero n h f = absurd (omega arith)
 digits-fewest (suc k) (suc zero) n h f = digits-small k n (f .1) ∙ rw (mod-eq-of-lt (f .1), lt-ltb n 10 (f .1))
@@ -45,11 +46,11 @@ fewest-le zero (suc (suc r)) n h f = absurd (omega (arith, f .2 (omega arith), p
 fewest-le (suc k) (suc (suc r)) n h f =
     omega (arith, fewest-le k (suc r) (n / 10) (omega (arith, pow-suc 10 (suc k))) (fewest-tenth r n f))
 
-pub fewest-le-twenty : (r n : ℕ) → n < 2 ^ 64 → Fewest 10 1 n r → r ≤ 20
-fewest-le-twenty r n h f = fewest-le 19 r n (omega arith) f
+pub fewest-le-most : (r n : ℕ) → n < 2 ^ 64 → Fewest 10 1 n r → r ≤ mostDigits
+fewest-le-most r n h f = fewest-le 19 r n (omega arith) f
 
 pub decimal-of-fewest : (r n : ℕ) → n < 2 ^ 64 → Fewest 10 1 n r → decimal n ≡ io·digits 10 r n
-decimal-of-fewest r n h f = digits-fewest 20 r n (fewest-le-twenty r n h f) f
+decimal-of-fewest r n h f = digits-fewest mostDigits r n (fewest-le-most r n h f) f
 
 pub length-of-fewest : (r n : ℕ) → n < 2 ^ 64 → Fewest 10 1 n r → length (decimal n) ≡ r
 length-of-fewest r n h f = ap length (decimal-of-fewest r n h f) ∙ length-io r n

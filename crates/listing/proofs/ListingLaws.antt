@@ -10,15 +10,16 @@ use borrow.Author.Tests.{ltb-true, ltb-false, lt-ltb, le-ltb}
 use lib.Dec.{ltb}
 use lib.ListN.{length, take, drop, set, length-append}
 use lib.Seq.{take-length, paste, length-paste, take-paste, drop-paste, drop-drop, set-split, take-append-seam}
-use Rattle.listing.specs.Listing.{digits, decimal, numbersLine, lineLength, put, refusedLine}
+use Rattle.ascii.specs.Ascii.{tab, lineEnd, digit0}
+use Rattle.listing.specs.Listing.{digits, mostDigits, decimal, numbersLine, lineLength, put, refusedLine}
 
 -- Decimal numbers
 
-pub digits-small : (k n : ℕ) → n < 10 → digits (suc k) n ≡ (48 + n) ∷ []
+pub digits-small : (k n : ℕ) → n < 10 → digits (suc k) n ≡ (digit0 + n) ∷ []
 unfolding digits
 digits-small k n h = rw (lt-ltb n 10 h)
 
-pub digits-large : (k n : ℕ) → 10 ≤ n → digits (suc k) n ≡ digits k (n / 10) ++ ((48 + n % 10) ∷ [])
+pub digits-large : (k n : ℕ) → 10 ≤ n → digits (suc k) n ≡ digits k (n / 10) ++ ((digit0 + n % 10) ∷ [])
 unfolding digits
 digits-large k n h = rw (le-ltb n 10 h)
 
@@ -38,11 +39,8 @@ length-digits-le zero n = omega arith
 length-digits-le (suc k) n =
     by-size n (λ h. rw (digits-small k n h) (omega arith)) (λ h. omega (arith, length-large k n h, length-digits-le k (n / 10)))
 
-pub length-decimal-le : (n : ℕ) → length (decimal n) ≤ 20
-length-decimal-le n = length-digits-le 20 n
-
-pub length-decimal-pos : (n : ℕ) → 1 ≤ length (decimal n)
-length-decimal-pos n = by-size n (λ h. rw (digits-small 19 n h) (omega arith)) (λ h. omega (arith, length-large 19 n h))
+pub length-decimal-le : (n : ℕ) → length (decimal n) ≤ mostDigits
+length-decimal-le n = length-digits-le mostDigits n
 
 -- k + 1 digits are enough below 10 ^ (k + 1)
 pub length-digits-of-lt : (m k n : ℕ) → n < 10 ^ suc k → length (digits m n) ≤ suc k
@@ -55,12 +53,12 @@ length-digits-of-lt (suc m) (suc k) n h =
 
 -- Lines of numbers
 
-pub numbersLine-cons : (n : ℕ) (ns : List ℕ) → 0 < length ns → numbersLine (n ∷ ns) ≡ decimal n ++ (9 ∷ []) ++ numbersLine ns
+pub numbersLine-cons : (n : ℕ) (ns : List ℕ) → 0 < length ns → numbersLine (n ∷ ns) ≡ decimal n ++ (tab ∷ []) ++ numbersLine ns
 unfolding numbersLine
 numbersLine-cons n [] h = absurd (omega arith)
-numbersLine-cons n (m ∷ ns) h = sym (append-assoc (decimal n) (9 ∷ []) (numbersLine (m ∷ ns)))
+numbersLine-cons n (m ∷ ns) h = sym (append-assoc (decimal n) (tab ∷ []) (numbersLine (m ∷ ns)))
 
-pub numbersLine-empty : (ns : List ℕ) → length ns ≡ 0 → numbersLine ns ≡ 10 ∷ []
+pub numbersLine-empty : (ns : List ℕ) → length ns ≡ 0 → numbersLine ns ≡ lineEnd ∷ []
 unfolding numbersLine
 numbersLine-empty [] h = refl
 numbersLine-empty (n ∷ ns) h = absurd (omega arith)
@@ -68,10 +66,14 @@ numbersLine-empty (n ∷ ns) h = absurd (omega arith)
 pub length-numbersLine : (ns : List ℕ) → 0 < length ns → length (numbersLine ns) ≡ lineLength ns
 unfolding numbersLine lineLength
 length-numbersLine [] h = absurd (omega arith)
-length-numbersLine (n ∷ []) h = length-append (decimal n) (10 ∷ []) ∙ omega arith
+length-numbersLine (n ∷ []) h = length-append (decimal n) (lineEnd ∷ []) ∙ omega arith
 length-numbersLine (n ∷ m ∷ ns) h = length-append (decimal n) _ ∙ omega (arith, length-numbersLine (m ∷ ns) (omega arith))
 
-pub lineLength-le : (ns : List ℕ) → lineLength ns ≤ 21 * length ns
+-- no number with the byte after it is longer
+abbrev pub mostNumber : ℕ
+mostNumber = mostDigits + 1
+
+pub lineLength-le : (ns : List ℕ) → lineLength ns ≤ mostNumber * length ns
 unfolding lineLength
 lineLength-le [] = omega arith
 lineLength-le (n ∷ ns) = omega (arith, length-decimal-le n, lineLength-le ns)
@@ -84,9 +86,9 @@ length-five a b c d e hb hd =
       arith,
       length-numbersLine (a ∷ b ∷ c ∷ d ∷ e ∷ []) (omega arith),
       length-decimal-le a,
-      length-digits-of-lt 20 9 b (omega arith),
+      length-digits-of-lt mostDigits 9 b (omega arith),
       length-decimal-le c,
-      length-digits-of-lt 20 0 d (omega arith),
+      length-digits-of-lt mostDigits 0 d (omega arith),
       length-decimal-le e,
     )
 

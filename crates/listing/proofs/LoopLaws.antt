@@ -9,6 +9,7 @@ use borrow.Author.Tests.{le-leb, lt-leb}
 use lib.Dec.{leb}
 use lib.ListN.{length, getD, drop, set, drop-of-length-le, length-append, length-drop}
 use lib.Seq.{drop-cons, paste, paste-suc}
+use Rattle.ascii.specs.Ascii.{tab, lineEnd}
 use Rattle.listing.specs.Listing.{decimal, numbersLine, lineLength, put}
 use Rattle.listing.proofs.ListingLaws.{numbersLine-cons, put-paste, length-put, put-put}
 use Rattle.listing.proofs.PlacedLaws.{leb-eq, Placed, fitted}
@@ -57,11 +58,11 @@ pub record Lined (ns : List ℕ) (at : ℕ) (out₀ : List ℕ) (i to : ℕ) (ou
   pub same : put to (numbersLine (drop i ns)) out ≡ put at (numbersLine ns) out₀
 
 numbersLine-drop : (ns : List ℕ) (i : ℕ) → suc i < length ns
-    → numbersLine (drop i ns) ≡ decimal (getD ns i 0) ++ (9 ∷ []) ++ numbersLine (drop (i + 1) ns)
+    → numbersLine (drop i ns) ≡ decimal (getD ns i 0) ++ (tab ∷ []) ++ numbersLine (drop (i + 1) ns)
 numbersLine-drop ns i h =
     rw (drop-cons ns i 0 (omega arith), add-one i) (numbersLine-cons (getD ns i 0) (drop (suc i) ns) (omega (arith, length-drop (suc i) ns)))
 
-numbersLine-last : (ns : List ℕ) (i : ℕ) → suc i ≡ length ns → numbersLine (drop i ns) ≡ decimal (getD ns i 0) ++ (10 ∷ [])
+numbersLine-last : (ns : List ℕ) (i : ℕ) → suc i ≡ length ns → numbersLine (drop i ns) ≡ decimal (getD ns i 0) ++ (lineEnd ∷ [])
 unfolding numbersLine
 numbersLine-last ns i h = rw (drop-cons ns i 0 (omega arith), drop-of-length-le ns {i = suc i} (omega arith))
 
@@ -70,9 +71,9 @@ lined-start ns at out₀ h = record { inside = h; size = refl; ends = refl; same
 
 module _ (ns : List ℕ) (at : ℕ) (out₀ : List ℕ) (fit : at + length (numbersLine ns) ≤ length out₀) (i to : ℕ) (out : List ℕ)
     (l : Lined ns at out₀ i to out) (r : ℕ) (o : List ℕ) where
-  pub lined-step : suc i < length ns → Placed to (decimal (getD ns i 0) ++ (9 ∷ [])) out r o → Lined ns at out₀ (i + 1) r o
+  pub lined-step : suc i < length ns → Placed to (decimal (getD ns i 0) ++ (tab ∷ [])) out r o → Lined ns at out₀ (i + 1) r o
   lined-step h p =
-      let bs : List ℕ = decimal (getD ns i 0) ++ (9 ∷ []) in
+      let bs : List ℕ = decimal (getD ns i 0) ++ (tab ∷ []) in
       let rest : List ℕ = numbersLine (drop (i + 1) ns) in
       let e : numbersLine (drop i ns) ≡ bs ++ rest = numbersLine-drop ns i h in
       let n : length (numbersLine (drop i ns)) ≡ length bs + length rest = ap length e ∙ length-append bs rest in
@@ -85,10 +86,10 @@ module _ (ns : List ℕ) (at : ℕ) (out₀ : List ℕ) (fit : at + length (numb
         same = rw (f .0, f .1, put-put to bs rest out room) (rw e at (l .same));
       }
 
-  pub lined-end : suc i ≡ length ns → Placed to (decimal (getD ns i 0) ++ (10 ∷ [])) out r o
+  pub lined-end : suc i ≡ length ns → Placed to (decimal (getD ns i 0) ++ (lineEnd ∷ [])) out r o
       → (r ≡ at + length (numbersLine ns)) × (o ≡ put at (numbersLine ns) out₀)
   lined-end h p =
       let e = numbersLine-last ns i h in
-      let room : to + length (decimal (getD ns i 0) ++ (10 ∷ [])) ≤ length out = omega (arith, l .size, l .ends, ap length e) in
+      let room : to + length (decimal (getD ns i 0) ++ (lineEnd ∷ [])) ≤ length out = omega (arith, l .size, l .ends, ap length e) in
       let f = fitted to _ out r o room p in
       (f .0 ∙ (rw e at (l .ends)), f .1 ∙ (rw e at (l .same)))

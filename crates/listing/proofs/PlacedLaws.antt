@@ -11,7 +11,7 @@ use Rattle.io.specs.Digits.{Fewest}
 use Rattle.io.specs.Digits.{digits as io·digits}
 use Rattle.listing.specs.Listing.{decimal, lineLength, put, putIf, after}
 use Rattle.listing.proofs.DigitsLaws.{decimal-of-fewest, length-of-fewest}
-use Rattle.listing.proofs.ListingLaws.{lineLength-le, length-put, put-put, put-one, take-put}
+use Rattle.listing.proofs.ListingLaws.{mostNumber, lineLength-le, length-put, put-put, put-one, take-put}
 
 -- Tests of what fits
 
@@ -32,9 +32,9 @@ past-end size at count h = lt-leb (at + count) size (omega arith)
 pub leb-sub : (size at count : ℕ) → at ≤ size → leb count (size - at) ≡ leb (at + count) size
 leb-sub size at count h = leb-eq count (size - at) (at + count) size (λ p. omega arith) (λ p. omega arith)
 
--- 21 bytes a number are enough
-pub line-fits-twenty-one : (size at : ℕ) (ns : List ℕ) → at ≤ size → length ns ≤ (size - at) / 21 → leb (at + lineLength ns) size ≡ true
-line-fits-twenty-one size at ns h l = le-leb (at + lineLength ns) size (omega (arith, lineLength-le ns))
+-- so many bytes a number are enough
+pub line-fits-most : (size at : ℕ) (ns : List ℕ) → at ≤ size → length ns ≤ (size - at) / mostNumber → leb (at + lineLength ns) size ≡ true
+line-fits-most size at ns h l = le-leb (at + lineLength ns) size (omega (arith, lineLength-le ns))
 
 -- Bytes put where they fit
 

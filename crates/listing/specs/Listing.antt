@@ -4,20 +4,25 @@ use mathlib.Core.List.{List, [], _∷_, _++_}
 use Prim.Native.Nat.{ℕ, zero, suc, _+_, _/_, _%_}
 use lib.Dec.{ltb, leb}
 use lib.ListN.{length, take, drop}
+use Rattle.ascii.specs.Ascii.{ascii, tab, lineEnd, digit0}
 
--- a number's decimal digits, the most significant first, at most k of them; 20 are enough below 2^64
+-- a number's decimal digits, the most significant first, at most k of them
 unfoldable pub digits : ℕ → ℕ → List ℕ
 digits zero n = []
-digits (suc k) n = cond (ltb n 10) ((48 + n) ∷ []) (digits k (n / 10) ++ ((48 + n % 10) ∷ []))
+digits (suc k) n = cond (ltb n 10) ((digit0 + n) ∷ []) (digits k (n / 10) ++ ((digit0 + n % 10) ∷ []))
+
+-- as many are enough below 2 ^ 64
+abbrev pub mostDigits : ℕ
+mostDigits = 20
 
 abbrev pub decimal : ℕ → List ℕ
-decimal n = digits 20 n
+decimal n = digits mostDigits n
 
 -- numbers with tabs between, and a line's end
 unfoldable pub numbersLine : List ℕ → List ℕ
-numbersLine [] = 10 ∷ []
-numbersLine (n ∷ []) = decimal n ++ (10 ∷ [])
-numbersLine (n ∷ m ∷ ns) = decimal n ++ (9 ∷ numbersLine (m ∷ ns))
+numbersLine [] = lineEnd ∷ []
+numbersLine (n ∷ []) = decimal n ++ (lineEnd ∷ [])
+numbersLine (n ∷ m ∷ ns) = decimal n ++ (tab ∷ numbersLine (m ∷ ns))
 
 -- the length of a line of one number or more: after each number's digits stands one byte
 unfoldable pub lineLength : List ℕ → ℕ
@@ -35,15 +40,10 @@ putIf at bytes out = cond (leb (at + length bytes) (length out)) (put at bytes o
 abbrev pub after : ℕ → List ℕ → ℕ → ℕ
 after at bytes size = cond (leb (at + length bytes) size) (at + length bytes) at
 
--- point, answer, visited, V, changed: the heading
+-- the heading
 abbrev pub heading : List ℕ
-heading =
-    112 ∷ 111 ∷ 105 ∷ 110 ∷ 116 ∷ 9
-    ∷ 97 ∷ 110 ∷ 115 ∷ 119 ∷ 101 ∷ 114 ∷ 9
-    ∷ 118 ∷ 105 ∷ 115 ∷ 105 ∷ 116 ∷ 101 ∷ 100 ∷ 9
-    ∷ 86 ∷ 9
-    ∷ 99 ∷ 104 ∷ 97 ∷ 110 ∷ 103 ∷ 101 ∷ 100 ∷ 10 ∷ []
+heading = ascii "point\tanswer\tvisited\tV\tchanged\n"
 
 -- a refused plan writes only `refused`, number, line
 abbrev pub refusedLine : ℕ → ℕ → List ℕ
-refusedLine number line = 114 ∷ 101 ∷ 102 ∷ 117 ∷ 115 ∷ 101 ∷ 100 ∷ 9 ∷ numbersLine (number ∷ line ∷ [])
+refusedLine number line = ascii "refused\t" ++ numbersLine (number ∷ line ∷ [])

@@ -5,13 +5,14 @@ use mathlib.Core.List.{List}
 use Prim.Native.Nat.{ℕ, _+_, _≤_}
 use lib.Dec.{ltb}
 use lib.ListN.{length, drop}
+use Rattle.ascii.specs.Ascii.{lineEnd}
 use Rattle.text.specs.Text.{upTo, linesOf}
 use Rattle.plan.specs.declared.Cursor.{Cursor}
 use Rattle.plan.specs.Reading.{Line, skipped, kept, Reading, memoryLine}
 
 -- the line at a place, without its byte 10
 abbrev pub lineAt : List ℕ → ℕ → List ℕ
-lineAt text at = upTo 10 (drop at text)
+lineAt text at = upTo lineEnd (drop at text)
 
 -- the lines from a place on, numbered from here
 abbrev pub linesFrom : List ℕ → ℕ → ℕ → List Line

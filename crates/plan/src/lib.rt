@@ -120,11 +120,11 @@ fn line_from(text: &[u8], from: usize, number: u64) -> Cursor
     ensures { λ r. ⌜ Next (now (text .entry)) from number r ⌝ }
 {
     let mut at = from;
-    let mut end = text::part_end(text, from, 10);
+    let mut end = text::part_end(text, from, ascii::LINE_END);
     let mut line = number;
     while is_skipped(text, at, end) {
         at = end + 1;
-        end = text::part_end(text, at, 10);
+        end = text::part_end(text, at, ascii::LINE_END);
         line += 1;
     }
     Cursor { at, end, line }
@@ -141,7 +141,7 @@ fn is_skipped(text: &[u8], at: usize, end: usize) -> bool
     if at == end {
         return true;
     }
-    text[at] == 35
+    text[at] == ascii::HASH
 }
 
 // The second pass, over an accepted plan: the axes whose lines start at these places are stored at the table's start.
@@ -152,7 +152,7 @@ fn store_axes(text: &[u8], table: &mut [u64], starts: [usize; 8], axes: u64)
     let mut used = 0;
     let mut k: u64 = 0;
     while k < axes {
-        let line = text::part(text, starts[k as usize], 10);
+        let line = text::part(text, starts[k as usize], ascii::LINE_END);
         used = store_axis(line, table, used);
         k += 1;
     }

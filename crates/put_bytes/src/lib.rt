@@ -1,5 +1,5 @@
-// Given bytes, and decimal numbers, put into a lent buffer where they fit whole. Each public function answers the index after them, or the
-// index given where they do not fit, and then nothing is written.
+// Given bytes, and decimal numbers, put into a lent buffer where they fit whole. Each public function
+// answers the index after them, or the index given where they do not fit, and then nothing is written.
 ghost use mathlib.Core.Path.{_≡_};
 ghost use mathlib.Core.List.{[], _∷_, _++_};
 ghost use Prim.Native.Nat.{_+_, _≤_};
@@ -7,12 +7,15 @@ ghost use lib.Dec.{leb};
 ghost use lib.ListN.{length};
 ghost use Rattle.listing.specs.Listing.{decimal, put, putIf, after};
 
+// A number below 2^64 has at most so many digits.
+pub const DIGITS: usize = 20;
+
 // The decimal number n, and the byte `end`.
 pub fn number(out: &mut [u8], at: usize, n: u64, end: u8) -> usize
     ensures { λ r. ⌜ r ≡ after at (decimal n ++ (end ∷ [])) (length (now (out .entry))) ⌝ }
     ensures { λ r. ⌜ now (out .exit) ≡ putIf at (decimal n ++ (end ∷ [])) (now (out .entry)) ⌝ }
 {
-    let mut text = [0u8; 20];
+    let mut text = [0u8; DIGITS];
     let k = io::decimal(n, &mut text);
     if has_room(out.len(), at, k + 1) {
         copy(out, at, &text[..k]);

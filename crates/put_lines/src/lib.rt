@@ -1,13 +1,13 @@
-// Lines of numbers, put into a lent buffer where they fit whole: `numbers` answers the index after the line, or the index given where it does not
-// fit, and then nothing is written.
+// Lines of numbers, put into a lent buffer where they fit whole: `numbers` answers the index after the
+// line, or the index given where it does not fit, and then nothing is written.
 ghost use mathlib.Core.Path.{_≡_};
 ghost use Prim.Native.Nat.{_+_, _≤_, _<_};
 ghost use lib.Dec.{leb};
 ghost use lib.ListN.{length};
 ghost use Rattle.listing.specs.Listing.{decimal, numbersLine, lineLength, put, putIf, after};
 
-// No number with the byte after it is longer: a number below 2^64 has at most 20 digits.
-pub const NUMBER: usize = 21;
+// No number with the byte after it is longer.
+pub const NUMBER: usize = put_bytes::DIGITS + 1;
 
 // A line of numbers.
 pub fn numbers(out: &mut [u8], at: usize, ns: &[u64]) -> usize
@@ -33,13 +33,14 @@ fn line(out: &mut [u8], at: usize, ns: &[u64]) -> usize
     let mut to = at;
     let mut i = 0;
     while i < last {
-        to = put_bytes::number(out, to, ns[i], 9);
+        to = put_bytes::number(out, to, ns[i], ascii::TAB);
         i += 1;
     }
-    put_bytes::number(out, to, ns[i], 10)
+    put_bytes::number(out, to, ns[i], ascii::LINE_END)
 }
 
-// Does a line of one number or more fit at the index? Where there is room for NUMBER bytes each, no digits are counted.
+// Does a line of one number or more fit at the index? Where there is room for NUMBER bytes each, no
+// digits are counted.
 fn line_fits(size: usize, at: usize, ns: &[u64]) -> bool
     ensures { λ r. ⌜ r ≡ leb (at + lineLength (now (ns .entry))) size ⌝ }
 {
@@ -74,6 +75,6 @@ fn line_within(ns: &[u64], room: usize) -> bool
 fn places(n: u64) -> usize
     ensures { λ r. ⌜ r ≡ length (decimal n) ⌝ }
 {
-    let mut text = [0u8; 20];
+    let mut text = [0u8; put_bytes::DIGITS];
     io::decimal(n, &mut text)
 }

@@ -67,9 +67,11 @@ fn asked_whole() -> Asked {
 }
 
 fn bad_usage() -> Asked {
-    bad(
-        b"sweep: usage: sweep [--experiments] PLAN [FIRST COUNT], or sweep --points PLAN; PLAN may be - for standard input\n",
-    )
+    io::write_all(
+        STDERR_FILENO,
+        b"sweep: usage: sweep [--experiments] PLAN [FIRST COUNT], or sweep --points PLAN; ",
+    );
+    bad(b"PLAN may be - for standard input\n")
 }
 
 // With FIRST and COUNT as these arguments.
@@ -106,7 +108,8 @@ fn number_argument(i: usize) -> Number {
     text::parse(&space[..length])
 }
 
-// Reads the plan that argument i names into the buffer, as much of it as fits; a line on standard error where that fails.
+// Reads the plan that argument i names into the buffer, as much of it as fits; a line on standard error
+// where that fails.
 pub fn plan_text(i: usize, buffer: &mut [u8]) -> Got
     ensures { λ r. ⌜ r .length ≤ length (now (buffer .exit)) ⌝ }
 {

@@ -2,6 +2,7 @@
 ghost use Prim.Native.Nat.{_≤_};
 ghost use lib.ListN.{length};
 ghost use Rattle.io.specs.Counts.{Counts};
+use first_line::NAMES;
 use libc::STDERR_FILENO;
 use libc::STDOUT_FILENO;
 use run::LINE;
@@ -75,7 +76,7 @@ fn unfinished(bytes: &[u8], end: usize) -> u64
 {
     let mut i = end;
     while 0 < i {
-        if bytes[i - 1] == 10 {
+        if bytes[i - 1] == ascii::LINE_END {
             return (end - i) as u64;
         }
         i -= 1;
@@ -100,7 +101,7 @@ pub fn refused(first: u64, answer: u64, at: u64) -> End {
 // The count of points.
 pub fn points(count: u64) -> End {
     let mut space = [0u8; LINE];
-    let end = put_bytes::number(&mut space, 0, count, 10);
+    let end = put_bytes::number(&mut space, 0, count, ascii::LINE_END);
     line(end, &space)
 }
 
@@ -119,9 +120,9 @@ pub fn names(first: u64) -> End {
     if first != 0 {
         return done();
     }
-    lines(
-        b"point\tSADDR\tSPTCH\tDADDR\tDPTCH\tOFFSET\tWSTART\tWEND\tDYDX\tCOLOR0\tCOLOR1\tCONTROL\tPSIZE\tPMASK\tSEED\n",
-    )
+    let mut space = [0u8; NAMES];
+    let end = first_line::put_names(&mut space, 0);
+    line(end, &space)
 }
 
 // A first point that the plan does not have.

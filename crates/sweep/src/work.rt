@@ -20,7 +20,7 @@ pub fn swept() -> End {
     if !asked.good {
         return output::error();
     }
-    let mut space = [0u8; 65537];
+    let mut space = [0u8; plan::TEXT + 1];
     let got = input::plan_text(asked.plan, &mut space);
     if !got.good {
         return output::error();
@@ -44,7 +44,8 @@ fn listed(asked: Asked, text: &[u8]) -> End {
     }
 }
 
-// The heading, and the lines of `count` points from `first` on, or as many as there are. With count 0 no point is asked for.
+// The heading, and the lines of `count` points from `first` on, or as many as there are. With count 0 no
+// point is asked for.
 fn list(p: Plan, table: &[u64], first: u64, count: u64) -> End {
     if count == 0 {
         return output::heading(first);
@@ -63,8 +64,8 @@ fn list(p: Plan, table: &[u64], first: u64, count: u64) -> End {
 fn run_all(p: Plan, table: &[u64], first: u64, count: u64) -> End
     requires { ⌜ first + count < 2 ^ 64 ⌝ }
 {
-    let mut image = [0u16; 32768];
-    let mut memory = [0u16; 32768];
+    let mut image = [0u16; names::MOST_WORDS];
+    let mut memory = [0u16; names::MOST_WORDS];
     run_batches(p, table, first, count, &mut image, &mut memory)
 }
 

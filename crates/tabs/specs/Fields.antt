@@ -5,6 +5,7 @@ use mathlib.Core.List.{List, []}
 use Prim.Native.Nat.{ℕ, _+_}
 use lib.Dec.{leb}
 use lib.ListN.{length, drop}
+use Rattle.ascii.specs.Ascii.{tab}
 use Rattle.text.specs.Text.{upTo, fieldsOf}
 use Rattle.text.specs.Number.{numberOf, valueOf, isBad}
 
@@ -14,7 +15,7 @@ fieldsFrom line p = cond (leb p (length line)) (fieldsOf (drop p line)) []
 
 -- the place behind the field at a place and the tab that ends it
 unfoldable pub behind : List ℕ → ℕ → ℕ
-behind line p = p + length (upTo 9 (drop p line)) + 1
+behind line p = p + length (upTo tab (drop p line)) + 1
 
 -- the place of the third field: past the line's end where there is none
 abbrev pub thirdAt : List ℕ → ℕ

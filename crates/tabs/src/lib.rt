@@ -4,6 +4,7 @@ ghost use mathlib.Core.List.{[]};
 ghost use Prim.Native.Nat.{_+_, _≤_};
 ghost use lib.ListN.{length, getD};
 ghost use Rattle.lists.specs.Search.{first};
+ghost use Rattle.ascii.specs.Ascii.{tab};
 ghost use Rattle.text.specs.Text.{fieldsOf, same};
 ghost use Rattle.text.specs.Number.{valueOf, isBad};
 ghost use Rattle.text.specs.Part.{PartOf};
@@ -13,9 +14,9 @@ use text::Number;
 // The second field, as that part of the line: empty where there is none.
 pub fn second(line: &[u8]) -> &[u8]
     ensures { λ r. let l = now (line .entry) in
-        ⌜ (now r ≡ getD (fieldsOf l) 1 []) × PartOf (line .entry) r (behind l 0) 9 ⌝ }
+        ⌜ (now r ≡ getD (fieldsOf l) 1 []) × PartOf (line .entry) r (behind l 0) tab ⌝ }
 {
-    text::part(line, behind(line, 0), 9)
+    text::part(line, behind(line, 0), ascii::TAB)
 }
 
 // The place of the third field: past the line's end where there is none.
@@ -33,7 +34,7 @@ pub fn count(line: &[u8], from: usize) -> u64
     let mut p = from;
     while p <= line.len() {
         n += 1;
-        p = text::part_end(line, p, 9) + 1;
+        p = text::part_end(line, p, ascii::TAB) + 1;
     }
     n
 }
@@ -45,7 +46,7 @@ pub fn index_of(list: &[u8], word: &[u8]) -> u64
     let mut n: u64 = 0;
     let mut p = 0;
     while p <= list.len() {
-        let end = text::part_end(list, p, 9);
+        let end = text::part_end(list, p, ascii::TAB);
         if text::same(word, &list[p..end]) {
             return n;
         }
@@ -94,5 +95,5 @@ fn behind(line: &[u8], p: usize) -> usize
     requires { ⌜ p ≤ length (now line) + 1 ⌝ }
     ensures { λ r. ⌜ r ≡ behind (now (line .entry)) p ⌝ }
 {
-    text::part_end(line, p, 9) + 1
+    text::part_end(line, p, ascii::TAB) + 1
 }

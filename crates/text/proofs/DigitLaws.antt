@@ -11,6 +11,7 @@ use lib.Dec.{leb, ltb}
 use lib.ListN.{length, getD, drop, drop-of-length-le}
 use lib.Seq.{drop-cons}
 use Rattle.lists.proofs.TestLaws.{cond-same}
+use Rattle.ascii.specs.Ascii.{digit0, digit9}
 use Rattle.text.specs.declared.Number.the-variants.{Value, Bad}
 use Rattle.text.specs.Number.{isDigit, areDigits, decimal, fitting, digitsOf, pushed}
 
@@ -33,21 +34,21 @@ fitting-value true v w e = go (ltb v (2 ^ 64)) refl e
 
 -- One digit more
 
-pub pushed-low : (v c : ℕ) → c < 48 → pushed v c ≡ Bad
-pushed-low v c h = rw (lt-leb 48 c h)
+pub pushed-low : (v c : ℕ) → c < digit0 → pushed v c ≡ Bad
+pushed-low v c h = rw (lt-leb digit0 c h)
 
-pub pushed-high : (v c : ℕ) → 57 < c → pushed v c ≡ Bad
-pushed-high v c h = rw (lt-leb c 57 h, and-false)
+pub pushed-high : (v c : ℕ) → digit9 < c → pushed v c ≡ Bad
+pushed-high v c h = rw (lt-leb c digit9 h, and-false)
 
-module _ (v c : ℕ) (low : 48 ≤ c) (high : c ≤ 57) where
-  pub pushed-fits : v * 10 + (c - 48) < 2 ^ 64 → pushed v c ≡ Value (v * 10 + (c - 48))
-  pushed-fits h = rw (le-leb 48 c low, le-leb c 57 high, lt-ltb _ (2 ^ 64) h)
+module _ (v c : ℕ) (low : digit0 ≤ c) (high : c ≤ digit9) where
+  pub pushed-fits : v * 10 + (c - digit0) < 2 ^ 64 → pushed v c ≡ Value (v * 10 + (c - digit0))
+  pushed-fits h = rw (le-leb digit0 c low, le-leb c digit9 high, lt-ltb _ (2 ^ 64) h)
 
-  pub pushed-over : 2 ^ 64 ≤ v * 10 + (c - 48) → pushed v c ≡ Bad
-  pushed-over h = rw (le-leb 48 c low, le-leb c 57 high, le-ltb _ (2 ^ 64) h)
+  pub pushed-over : 2 ^ 64 ≤ v * 10 + (c - digit0) → pushed v c ≡ Bad
+  pushed-over h = rw (le-leb digit0 c low, le-leb c digit9 high, le-ltb _ (2 ^ 64) h)
 
 pub pushed-lt : (v c w : ℕ) → pushed v c ≡ Value w → w < 2 ^ 64
-pushed-lt v c w e = fitting-value (isDigit c) (v * 10 + (c - 48)) w e .2
+pushed-lt v c w e = fitting-value (isDigit c) (v * 10 + (c - digit0)) w e .2
 
 -- The value of digits
 
@@ -55,13 +56,13 @@ pushed-lt v c w e = fitting-value (isDigit c) (v * 10 + (c - 48)) w e .2
 pub decimal-ge : (v : ℕ) (cs : List ℕ) → v ≤ decimal v cs
 unfolding decimal
 decimal-ge v [] = le-refl v
-decimal-ge v (c ∷ cs) = le-trans (more v (c - 48)) (decimal-ge (v * 10 + (c - 48)) cs)
+decimal-ge v (c ∷ cs) = le-trans (more v (c - digit0)) (decimal-ge (v * 10 + (c - digit0)) cs)
   where
     more : (v d : ℕ) → v ≤ v * 10 + d
     more v d = omega arith
 
-pub isDigit-le : (c : ℕ) → isDigit c ≡ true → (48 ≤ c) × (c ≤ 57)
-isDigit-le c e = let t = and-eq-true-iff (leb 48 c) (leb c 57) .0 e in (leb-true 48 c (t .0), leb-true c 57 (t .1))
+pub isDigit-le : (c : ℕ) → isDigit c ≡ true → (digit0 ≤ c) × (c ≤ digit9)
+isDigit-le c e = let t = and-eq-true-iff (leb digit0 c) (leb c digit9) .0 e in (leb-true digit0 c (t .0), leb-true c digit9 (t .1))
 
 -- a greater value stays greater, where no fewer digits follow it
 pub decimal-lt : (v w : ℕ) (a b : List ℕ) → v < w → length a ≤ length b → areDigits a ≡ true → decimal v a < decimal w b
@@ -71,7 +72,7 @@ decimal-lt v w (c ∷ a) [] h n t = absurd (omega arith)
 decimal-lt v w (c ∷ a) (d ∷ b) h n t =
     let q = and-eq-true-iff (isDigit c) (areDigits a) .0 t in
     let l = isDigit-le c (q .0) in
-    decimal-lt (v * 10 + (c - 48)) (w * 10 + (d - 48)) a b (omega arith) (omega arith) (q .1)
+    decimal-lt (v * 10 + (c - digit0)) (w * 10 + (d - digit0)) a b (omega arith) (omega arith) (q .1)
 
 -- as many digits with the same value are the same
 pub decimal-inj : (v w : ℕ) (a b : List ℕ) → length a ≡ length b → areDigits a ≡ true → areDigits b ≡ true → decimal v a ≡ decimal w b → (v ≡ w) × (a ≡ b)
@@ -84,7 +85,7 @@ decimal-inj v w (c ∷ a) (d ∷ b) n s t e =
     let q = and-eq-true-iff (isDigit d) (areDigits b) .0 t in
     let l = isDigit-le c (p .0) in
     let m = isDigit-le d (q .0) in
-    let i = decimal-inj (v * 10 + (c - 48)) (w * 10 + (d - 48)) a b (omega arith) (p .1) (q .1) e in
+    let i = decimal-inj (v * 10 + (c - digit0)) (w * 10 + (d - digit0)) a b (omega arith) (p .1) (q .1) e in
     let o : c ≡ d = omega arith in
     (omega arith, ap₂ (λ (x : ℕ) (r : List ℕ). x ∷ r) o (i .1))
 
@@ -92,10 +93,10 @@ decimal-inj v w (c ∷ a) (d ∷ b) n s t e =
 
 digitsOf-cons : (v c w : ℕ) (cs : List ℕ) → pushed v c ≡ Value w → digitsOf v (c ∷ cs) ≡ digitsOf w cs
 unfolding areDigits decimal
-digitsOf-cons v c w cs = go (isDigit c) (ltb (v * 10 + (c - 48)) (2 ^ 64))
+digitsOf-cons v c w cs = go (isDigit c) (ltb (v * 10 + (c - digit0)) (2 ^ 64))
   where
-    go : (b d : Bool) → cond b (cond d (Value (v * 10 + (c - 48))) Bad) Bad ≡ Value w
-        → cond (b && areDigits cs) (fitting (decimal (v * 10 + (c - 48)) cs)) Bad ≡ digitsOf w cs
+    go : (b d : Bool) → cond b (cond d (Value (v * 10 + (c - digit0))) Bad) Bad ≡ Value w
+        → cond (b && areDigits cs) (fitting (decimal (v * 10 + (c - digit0)) cs)) Bad ≡ digitsOf w cs
     go true true e = ap (λ (n : ℕ). digitsOf n cs) (Value-inj _ w e)
     go true false e = absurd (Bad-ne-Value w e)
     go false d e = absurd (Bad-ne-Value w e)
@@ -103,12 +104,12 @@ digitsOf-cons v c w cs = go (isDigit c) (ltb (v * 10 + (c - 48)) (2 ^ 64))
 -- no digit, or a value that is too large however it goes on
 digitsOf-bad : (v c : ℕ) (cs : List ℕ) → pushed v c ≡ Bad → digitsOf v (c ∷ cs) ≡ Bad
 unfolding areDigits decimal
-digitsOf-bad v c cs = go (isDigit c) (ltb (v * 10 + (c - 48)) (2 ^ 64)) refl
+digitsOf-bad v c cs = go (isDigit c) (ltb (v * 10 + (c - digit0)) (2 ^ 64)) refl
   where
-    go : (b d : Bool) → ltb (v * 10 + (c - 48)) (2 ^ 64) ≡ d → cond b (cond d (Value (v * 10 + (c - 48))) Bad) Bad ≡ Bad
-        → cond (b && areDigits cs) (fitting (decimal (v * 10 + (c - 48)) cs)) Bad ≡ Bad
+    go : (b d : Bool) → ltb (v * 10 + (c - digit0)) (2 ^ 64) ≡ d → cond b (cond d (Value (v * 10 + (c - digit0))) Bad) Bad ≡ Bad
+        → cond (b && areDigits cs) (fitting (decimal (v * 10 + (c - digit0)) cs)) Bad ≡ Bad
     go true true t e = absurd (Bad-ne-Value _ (sym e))
-    go true false t e = rw (le-ltb _ _ (le-trans (ltb-false _ _ t) (decimal-ge (v * 10 + (c - 48)) cs))) (cond-same (areDigits cs) Bad)
+    go true false t e = rw (le-ltb _ _ (le-trans (ltb-false _ _ t) (decimal-ge (v * 10 + (c - digit0)) cs))) (cond-same (areDigits cs) Bad)
     go false d t e = refl
 
 module _ (s : List ℕ) (i v : ℕ) where

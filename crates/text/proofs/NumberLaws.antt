@@ -8,9 +8,9 @@ use native.Mathlib.Omega.{arith}
 use borrow.Author.Tests.{eq-eqb, lt-ltb}
 use lib.Dec.{eqb, ltb}
 use lib.ListN.{length, getD}
-use Rattle.text.specs.declared.Number.{Number}
+use Rattle.ascii.specs.Ascii.{digit0}
 use Rattle.text.specs.declared.Number.the-variants.{Value, Bad}
-use Rattle.text.specs.Number.{isDigit, areDigits, decimal, digitsOf, numberOf, valueOf}
+use Rattle.text.specs.Number.{isDigit, areDigits, decimal, digitsOf, numberOf}
 use Rattle.text.proofs.DigitLaws.{Bad-ne-Value, fitting-value, isDigit-le, decimal-lt, decimal-inj}
 
 -- A field by its length and its first byte
@@ -22,9 +22,9 @@ numberOf-empty (c ∷ s) e = absurd (omega arith)
 
 -- is there a leading zero?
 abbrev pub leads : List ℕ → Bool
-leads s = ltb 1 (length s) && eqb (getD s 0 0) 48
+leads s = ltb 1 (length s) && eqb (getD s 0 0) digit0
 
-leads-two : (c d : ℕ) (s : List ℕ) → leads (c ∷ d ∷ s) ≡ eqb c 48
+leads-two : (c d : ℕ) (s : List ℕ) → leads (c ∷ d ∷ s) ≡ eqb c digit0
 leads-two c d s = rw (lt-ltb 1 (suc (suc (length s))) (omega arith))
 
 pub numberOf-led : (s : List ℕ) → leads s ≡ true → numberOf s ≡ Bad
@@ -41,42 +41,27 @@ numberOf-digits (c ∷ d ∷ s) n e = rw (sym (leads-two c d s) ∙ e)
 
 -- The fields that are numbers: decimal without leading zeros, not above 2^64 - 1
 
-pub record Written (s : List ℕ) (v : ℕ) : Type 0 where
-  pub some : 0 < length s
-  pub digits : areDigits s ≡ true
-  pub unled : leads s ≡ false
-  pub value : decimal 0 s ≡ v
-  pub fits : v < 2 ^ 64
-
-pub numberOf-of-written : (s : List ℕ) (v : ℕ) → Written s v → numberOf s ≡ Value v
-numberOf-of-written s v w =
-    let l : decimal 0 s < 2 ^ 64 = omega (arith, w .value, w .fits) in
-    numberOf-digits s (λ e. omega (arith, w .some)) (w .unled) ∙ rw (w .digits, lt-ltb (decimal 0 s) (2 ^ 64) l, w .value)
+record Written (s : List ℕ) (v : ℕ) : Type 0 where
+  some : 0 < length s
+  digits : areDigits s ≡ true
+  unled : leads s ≡ false
+  value : decimal 0 s ≡ v
+  fits : v < 2 ^ 64
 
 digitsOf-written : (s : List ℕ) (v : ℕ) → 0 < length s → leads s ≡ false → digitsOf 0 s ≡ Value v → Written s v
 digitsOf-written s v n l e =
     let t = fitting-value (areDigits s) (decimal 0 s) v e in
     record { some = n; digits = t .0; unled = l; value = t .1; fits = t .2 }
 
-pub numberOf-written : (s : List ℕ) (v : ℕ) → numberOf s ≡ Value v → Written s v
+numberOf-written : (s : List ℕ) (v : ℕ) → numberOf s ≡ Value v → Written s v
 unfolding numberOf
 numberOf-written [] v e = absurd (Bad-ne-Value v e)
 numberOf-written (c ∷ []) v e = digitsOf-written (c ∷ []) v (omega arith) refl e
-numberOf-written (c ∷ d ∷ s) v e = go (eqb c 48) refl e
+numberOf-written (c ∷ d ∷ s) v e = go (eqb c digit0) refl e
   where
-    go : (b : Bool) → eqb c 48 ≡ b → cond b Bad (digitsOf 0 (c ∷ d ∷ s)) ≡ Value v → Written (c ∷ d ∷ s) v
+    go : (b : Bool) → eqb c digit0 ≡ b → cond b Bad (digitsOf 0 (c ∷ d ∷ s)) ≡ Value v → Written (c ∷ d ∷ s) v
     go true t e = absurd (Bad-ne-Value v e)
     go false t e = digitsOf-written (c ∷ d ∷ s) v (omega arith) (leads-two c d s ∙ t) e
-
-pub numberOf-lt : (s : List ℕ) (v : ℕ) → numberOf s ≡ Value v → v < 2 ^ 64
-numberOf-lt s v e = numberOf-written s v e .fits
-
-pub valueOf-lt : (s : List ℕ) → valueOf (numberOf s) < 2 ^ 64
-valueOf-lt s = go (numberOf s) refl
-  where
-    go : (n : Number) → numberOf s ≡ n → valueOf n < 2 ^ 64
-    go (Value v) e = numberOf-lt s v e
-    go Bad e = omega arith
 
 -- No two fields are the same number
 
@@ -88,8 +73,8 @@ fewer-lt a (d ∷ b) v w p q h =
     let t = and-eq-true-iff (isDigit d) (areDigits b) .0 (q .digits) in
     let l = isDigit-le d (t .0) in
     let m : 1 < suc (length b) = omega (arith, p .some) in
-    let n : 48 < d = lt-of-not-le (λ k. true≢false (rw (lt-ltb 1 (suc (length b)) m, eq-eqb d 48 (omega arith)) at (q .unled))) in
-    omega (arith, p .value, q .value, decimal-lt 0 (0 * 10 + (d - 48)) a b (omega arith) (omega arith) (p .digits))
+    let n : digit0 < d = lt-of-not-le (λ k. true≢false (rw (lt-ltb 1 (suc (length b)) m, eq-eqb d digit0 (omega arith)) at (q .unled))) in
+    omega (arith, p .value, q .value, decimal-lt 0 (0 * 10 + (d - digit0)) a b (omega arith) (omega arith) (p .digits))
 
 pub numberOf-inj : (a b : List ℕ) (v : ℕ) → numberOf a ≡ Value v → numberOf b ≡ Value v → a ≡ b
 numberOf-inj a b v e f =

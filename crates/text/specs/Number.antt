@@ -1,14 +1,16 @@
--- Numbers are decimal without leading zeros, at most 2^64 - 1 (the scope, "Plans and images"). Assumes nothing.
+-- Numbers are decimal without leading zeros, at most 2^64 - 1 (the scope, "Plans and images").
+-- Assumes nothing.
 use mathlib.Core.Bool.{Bool, true, cond, _&&_}
 use mathlib.Core.List.{List, [], _∷_}
 use Prim.Native.Nat.{ℕ, _+_, _-_, _*_, _^_}
 use lib.Dec.{eqb, ltb, leb}
+use Rattle.ascii.specs.Ascii.{digit0, digit9}
 use Rattle.text.specs.declared.Number.{Number}
 use Rattle.text.specs.declared.Number.the-variants.{Value, Bad}
 
 -- a byte from `0` to `9`; bytes that all are
 abbrev pub isDigit : ℕ → Bool
-isDigit c = leb 48 c && leb c 57
+isDigit c = leb digit0 c && leb c digit9
 
 unfoldable pub areDigits : List ℕ → Bool
 areDigits [] = true
@@ -17,7 +19,7 @@ areDigits (c ∷ cs) = isDigit c && areDigits cs
 -- the value of digits that follow a value
 unfoldable pub decimal : ℕ → List ℕ → ℕ
 decimal v [] = v
-decimal v (c ∷ cs) = decimal (v * 10 + (c - 48)) cs
+decimal v (c ∷ cs) = decimal (v * 10 + (c - digit0)) cs
 
 -- a value, where it is at most 2^64 - 1
 abbrev pub fitting : ℕ → Number
@@ -28,13 +30,13 @@ abbrev pub digitsOf : ℕ → List ℕ → Number
 digitsOf v cs = cond (areDigits cs) (fitting (decimal v cs)) Bad
 
 abbrev pub pushed : ℕ → ℕ → Number
-pushed v c = cond (isDigit c) (fitting (v * 10 + (c - 48))) Bad
+pushed v c = cond (isDigit c) (fitting (v * 10 + (c - digit0))) Bad
 
 -- a field as a number: not an empty one, and no leading zero but in 0 itself
 unfoldable pub numberOf : List ℕ → Number
 numberOf [] = Bad
 numberOf (c ∷ []) = digitsOf 0 (c ∷ [])
-numberOf (c ∷ d ∷ cs) = cond (eqb c 48) Bad (digitsOf 0 (c ∷ d ∷ cs))
+numberOf (c ∷ d ∷ cs) = cond (eqb c digit0) Bad (digitsOf 0 (c ∷ d ∷ cs))
 
 -- its value, 0 where it has none
 abbrev pub valueOf : Number → ℕ

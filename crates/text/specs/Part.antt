@@ -1,4 +1,5 @@
--- A part that is handed back of a lent text: its bytes, and where in the caller's text they stand (the scope, "Plans and images"). Assumes nothing.
+-- A part that is handed back of a lent text: its bytes, and where in the caller's text they stand
+-- (the scope, "Plans and images"). Assumes nothing.
 use mathlib.Core.Path.{_≡_}
 use mathlib.Core.Bool.{cond}
 use mathlib.Core.List.{List}
@@ -12,7 +13,8 @@ use Rattle.text.specs.Text.{upTo}
 abbrev pub startOf : List ℕ → ℕ → ℕ
 startOf text from = cond (ltb (length text) from) 0 from
 
--- the part from a place up to a mark: the same block of memory as the text, so far behind the text's own start
+-- the part from a place up to a mark: the same block of memory as the text, so far behind the text's
+-- own start
 pub record PartOf (text part : RefT (List ℕ)) (from mark : ℕ) : Type 0 where
   pub bytes : now part ≡ upTo mark (drop from (now text))
   pub block : part .ptr .0 ≡ text .ptr .0

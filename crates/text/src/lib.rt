@@ -6,6 +6,9 @@ ghost use Rattle.text.specs.Text.{upTo, same};
 ghost use Rattle.text.specs.Part.{PartOf};
 ghost use Rattle.text.specs.Number.{pushed, digitsOf, numberOf};
 
+// A tenth of 2^64 - 1.
+const TENTH: u64 = u64::MAX / 10;
+
 // What a field is as a number.
 pub enum Number {
     Value(u64),
@@ -61,7 +64,7 @@ pub fn parse(field: &[u8]) -> Number
     if field.len() == 0 {
         return Number::Bad;
     }
-    if (1 < field.len()) & (field[0] == 48) {
+    if (1 < field.len()) & (field[0] == ascii::DIGIT_0) {
         return Number::Bad;
     }
     digits(field)
@@ -87,18 +90,18 @@ fn digits(field: &[u8]) -> Number
 fn push(v: u64, c: u8) -> Number
     ensures { λ r. ⌜ r ≡ pushed v c ⌝ }
 {
-    if c < 48 {
+    if c < ascii::DIGIT_0 {
         return Number::Bad;
     }
-    if 57 < c {
+    if ascii::DIGIT_9 < c {
         return Number::Bad;
     }
-    let d = (c - 48) as u64;
-    // below a tenth of 2^64 - 1 any digit fits: no division
-    if v < 1844674407370955161 {
+    let d = (c - ascii::DIGIT_0) as u64;
+    // here any digit fits: no division
+    if v < TENTH {
         return Number::Value(v * 10 + d);
     }
-    if (18446744073709551615 - d) / 10 < v {
+    if (u64::MAX - d) / 10 < v {
         return Number::Bad;
     }
     Number::Value(v * 10 + d)

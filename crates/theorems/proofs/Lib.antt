@@ -10,6 +10,7 @@ pub mod SeenLaws
 pub mod Windows
 pub mod Refused
 pub mod Slices
+pub mod Names
 pub mod Plans
 pub mod WritingLaws
 pub mod Runs

@@ -18,6 +18,7 @@ use Rattle.array_refusal.specs.Refusal.{refusal}
 use Rattle.array_refusal.proofs.RefusalLaws.{refusal-number}
 use Rattle.plot.specs.Drawing.{pixels}
 use Rattle.text.specs.Number.{numberOf, valueOf}
+use Rattle.text.proofs.NumberLaws.{numberOf-inj}
 use Rattle.points.specs.Axes.{count}
 use Rattle.points.specs.Points.{experiment}
 use Rattle.points.specs.Table.{pointsIn}
@@ -33,8 +34,8 @@ use Rattle.run.proofs.LinesLaws.{pointLines-add}
 use Rattle.run.proofs.AnswerLaws.{endsPast-of-point, endsPast-of-none}
 use Rattle.run.proofs.ValuesLaws.{settings-kept-small}
 use Rattle.theorems.specs.Plans.{linesFrom}
-use Rattle.theorems.specs.Runs.{RefusedPoint, PointsAreWhole, PartIsListing, PartsAreOne, NumbersReadBack, OneWriting, CountFits}
-use Rattle.theorems.specs.Runs.{AnswersInOrder, ShownIsRun, OfRuns}
+use Rattle.theorems.specs.Runs.{RefusedPoint, PointsAreWhole, PartIsListing, PartsAreOne, NumbersReadBack, OneWriting}
+use Rattle.theorems.specs.Runs.{OneField, CountFits, AnswersInOrder, ShownIsRun, OfRuns}
 use Rattle.theorems.proofs.WritingLaws.{numberOf-decimal}
 
 -- Points
@@ -130,6 +131,9 @@ numbers-read-back = numberOf-decimal
 pub one-writing : OneWriting
 one-writing m n hm hn e = ap valueOf (sym (numberOf-decimal m hm) ∙ ap numberOf e ∙ numberOf-decimal n hn)
 
+pub one-field : OneField
+one-field = numberOf-inj
+
 -- Counts and answers
 
 pub count-fits : CountFits
@@ -155,6 +159,7 @@ of-runs =
       parts-are-one = parts-are-one;
       numbers-read-back = numbers-read-back;
       one-writing = one-writing;
+      one-field = one-field;
       count-fits = count-fits;
       answers-in-order = answers-in-order;
       shown-is-run = shown-is-run;

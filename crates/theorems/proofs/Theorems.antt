@@ -7,6 +7,7 @@ use Rattle.theorems.proofs.Arrays.{of-arrays}
 use Rattle.theorems.proofs.Windows.{of-windows}
 use Rattle.theorems.proofs.Refused.{of-refusals}
 use Rattle.theorems.proofs.Slices.{of-slices}
+use Rattle.theorems.proofs.Names.{of-names}
 use Rattle.theorems.proofs.Plans.{of-plans}
 use Rattle.theorems.proofs.Runs.{of-runs}
 use Rattle.theorems.proofs.Example.{of-example}
@@ -21,6 +22,7 @@ theorems =
       windows = of-windows;
       refusals = of-refusals;
       slices = of-slices;
+      names = of-names;
       plans = of-plans;
       runs = of-runs;
       example = of-example;

@@ -5,6 +5,7 @@ pub mod Arrays
 pub mod Windows
 pub mod Refused
 pub mod Slices
+pub mod Names
 pub mod Plans
 pub mod Runs
 pub mod Example

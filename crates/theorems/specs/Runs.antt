@@ -62,12 +62,16 @@ PartsAreOne =
     (text : List ℕ) (first j k : ℕ) → 0 < first + j
     → partOf text first j ++ partOf text (first + j) k ≡ partOf text first (j + k)
 
--- Each number of 64 bits has one writing: what a listing writes, a plan's reader reads back.
+-- Each number of 64 bits has one writing: what a listing writes, a plan's reader reads back; two
+-- numbers are not written as one, and two fields are not read as one number.
 abbrev pub NumbersReadBack : Type 0
 NumbersReadBack = (n : ℕ) → n < 2 ^ 64 → numberOf (decimal n) ≡ Value n
 
 abbrev pub OneWriting : Type 0
 OneWriting = (m n : ℕ) → m < 2 ^ 64 → n < 2 ^ 64 → decimal m ≡ decimal n → m ≡ n
+
+abbrev pub OneField : Type 0
+OneField = (a b : List ℕ) (v : ℕ) → numberOf a ≡ Value v → numberOf b ≡ Value v → a ≡ b
 
 -- No plan has more than 64^8 points, so that their numbers fit into 64 bits.
 abbrev pub CountFits : Type 0
@@ -106,6 +110,7 @@ pub record OfRuns : Type 0 where
   pub parts-are-one : PartsAreOne
   pub numbers-read-back : NumbersReadBack
   pub one-writing : OneWriting
+  pub one-field : OneField
   pub count-fits : CountFits
   pub answers-in-order : AnswersInOrder
   pub shown-is-run : ShownIsRun

@@ -8,6 +8,7 @@ use Rattle.theorems.specs.Arrays.{OfArrays}
 use Rattle.theorems.specs.Windows.{OfWindows}
 use Rattle.theorems.specs.Refused.{OfRefusals}
 use Rattle.theorems.specs.Slices.{OfSlices}
+use Rattle.theorems.specs.Names.{OfNames}
 use Rattle.theorems.specs.Plans.{OfPlans}
 use Rattle.theorems.specs.Runs.{OfRuns}
 use Rattle.theorems.specs.Example.{OfExample}
@@ -20,6 +21,7 @@ pub record Theorems : Type 0 where
   pub windows : OfWindows
   pub refusals : OfRefusals
   pub slices : OfSlices
+  pub names : OfNames
   pub plans : OfPlans
   pub runs : OfRuns
   pub example : OfExample

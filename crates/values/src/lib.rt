@@ -19,7 +19,7 @@ pub fn any_field(line: &[u8], from: usize, test: Test) -> bool
 {
     let mut p = from;
     while p <= line.len() {
-        let end = text::part_end(line, p, 9);
+        let end = text::part_end(line, p, ascii::TAB);
         if passes(&line[p..end], test) {
             return true;
         }
@@ -72,7 +72,7 @@ pub fn block_at(line: &[u8], from: usize, most: u64) -> Block
     let mut bad = false;
     let mut above = false;
     while (count < BLOCK) & (p <= line.len()) {
-        let end = text::part_end(line, p, 9);
+        let end = text::part_end(line, p, ascii::TAB);
         let number = text::parse(&line[p..end]);
         let v = tabs::value_of(number);
         bad = bad | tabs::is_bad(number);
@@ -112,7 +112,7 @@ pub fn any_among(line: &[u8], from: usize, held: &[u64]) -> bool
 {
     let mut p = from;
     while p <= line.len() {
-        let end = text::part_end(line, p, 9);
+        let end = text::part_end(line, p, ascii::TAB);
         let v = tabs::field_value(&line[p..end]);
         if is_among(held, v) {
             return true;

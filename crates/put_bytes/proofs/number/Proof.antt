@@ -6,7 +6,7 @@ use borrow.Author.Needs.{needs}
 use borrow.Author.Tests.{leb-true}
 use lib.ListN.{length}
 use denote.Ref.{now}
-use Rattle.listing.proofs.DigitsLaws.{fewest-le-twenty}
+use Rattle.listing.proofs.DigitsLaws.{fewest-le-most}
 use Rattle.listing.proofs.PlacedLaws.{number-placed, number-not-placed}
 use Rattle.put_bytes.proofs.number.Statement.{statement}
 use Rattle.put_bytes.proofs.number.Tie as tie
@@ -23,7 +23,7 @@ decimal-requires : tie.Need-decimal-requires
 decimal-requires c κs = search needs
 
 add-has-room : tie.Need-add-has-room
-add-has-room c = omega (arith, fewest-le-twenty (c .decimal .result) _ (Start c .fits .n .fits) (c .decimal .ensures .1 .0))
+add-has-room c = omega (arith, fewest-le-most (c .decimal .result) _ (Start c .fits .n .fits) (c .decimal .ensures .1 .0))
 
 has-room-requires : tie.Need-has-room-requires
 has-room-requires c κs = search needs

@@ -2,7 +2,7 @@
 use mathlib.Core.Path.{sym, _∙_}
 use borrow.Author.Needs.{needs}
 use denote.Ref.{now}
-use Rattle.listing.proofs.PlacedLaws.{past-end, leb-sub, line-fits-twenty-one}
+use Rattle.listing.proofs.PlacedLaws.{past-end, leb-sub, line-fits-most}
 use Rattle.put_lines.proofs.line_fits.Statement.{statement}
 use Rattle.put_lines.proofs.line_fits.Tie as tie
 
@@ -10,7 +10,7 @@ returns : tie.Need-returns
 returns c = sym (past-end _ _ _ (c .if1 .taken))
 
 returns-2 : tie.Need-returns-2
-returns-2 c = sym (line-fits-twenty-one _ _ (now (c .before .before .before .args .ns)) (c .before .if1 .left) (c .if2 .taken))
+returns-2 c = sym (line-fits-most _ _ (now (c .before .before .before .args .ns)) (c .before .if1 .left) (c .if2 .taken))
 
 line-within-requires : tie.Need-line-within-requires
 line-within-requires c κs = search needs

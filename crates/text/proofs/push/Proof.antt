@@ -12,33 +12,15 @@ returns c = let a = c .before .args in sym (pushed-low (a .v) (a .c) (omega arit
 returns-2 : tie.Need-returns-2
 returns-2 c = let a = c .before .before .args in sym (pushed-high (a .v) (a .c) (omega arith))
 
-cast-d : tie.Need-cast-d
-cast-d c = search needs
-
-mul-t6 : tie.Need-mul-t6
-mul-t6 c = search needs
-
-add-t7 : tie.Need-add-t7
-add-t7 c = search needs
-
 returns-3 : tie.Need-returns-3
 returns-3 c =
     let a = c .before .before .before .args in
     sym (pushed-fits (a .v) (a .c) (omega arith) (omega arith) (omega arith))
 
-sub-if4 : tie.Need-sub-if4
-sub-if4 c = search needs
-
 returns-4 : tie.Need-returns-4
 returns-4 c =
     let a = c .before .before .before .before .args in
     sym (pushed-over (a .v) (a .c) (omega arith) (omega arith) (omega arith))
-
-mul-t8 : tie.Need-mul-t8
-mul-t8 c = search needs
-
-add-t9 : tie.Need-add-t9
-add-t9 c = search needs
 
 returns-5 : tie.Need-returns-5
 returns-5 c =
@@ -48,4 +30,15 @@ returns-5 c =
 pub push-spec : {M : Type 1} → statement M
 push-spec =
     tie.close
-    (tie.spec returns returns-2 cast-d mul-t6 add-t7 returns-3 sub-if4 returns-4 mul-t8 add-t9 returns-5)
+    (tie.spec
+    returns
+    returns-2
+    (λ c. search needs)
+    (λ c. search needs)
+    (λ c. search needs)
+    returns-3
+    (λ c. search needs)
+    returns-4
+    (λ c. search needs)
+    (λ c. search needs)
+    returns-5)
