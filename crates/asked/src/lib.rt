@@ -3,7 +3,8 @@ ghost use mathlib.Core.Path.{_≡_};
 ghost use Rattle.run.specs.Lines.{badShape, endsPast};
 use run::LINE;
 
-// Are the memories not of one size up to MOST_WORDS, is the drawing none, or is there no room for the longest lines?
+// Are the memories not of one size up to PLAN_WORDS, is the drawing none, or is there no room for
+// the longest lines?
 pub fn bad_shape(words: usize, others: usize, draw: u64, count: u64, size: usize) -> bool
     ensures { λ r. ⌜ r ≡ badShape words others draw count size ⌝ }
 {

@@ -2,7 +2,7 @@
 use mathlib.Core.Path.{_≡_, refl, sym}
 use mathlib.Core.Bool.{Bool, true, not, _||_}
 use mathlib.Core.List.{List, [], _∷_, map}
-use Prim.Native.Nat.{ℕ, suc, _+_, _-_, _<_, _≤_}
+use Prim.Native.Nat.{ℕ, suc, _+_, _-_, _<_, _≤_, min}
 use native.Mathlib.Numerals.{add-one}
 use native.Mathlib.Omega.{arith}
 use borrow.Author.Tests.{ne-eqb}
@@ -12,9 +12,10 @@ use lib.Seq.{set-out, take-nil}
 use Rattle.lists.specs.Search.{any, first}
 use Rattle.text.specs.Text.{upTo, same}
 use Rattle.line.specs.Words.{axisWord}
+use Rattle.points.specs.Axes.{axisLength, mostValues}
 use Rattle.tabs.specs.Fields.{fieldValue, noNumber}
 use Rattle.line.specs.Line.{nameOf}
-use Rattle.axis.specs.Axis.{valuesOf, badForm, refusal, axisLine, storedAt}
+use Rattle.axis.specs.Axis.{axisOf, badForm, refusal, axisLine, storedAt}
 use Rattle.tabs.specs.Fields.{fieldsFrom}
 use Rattle.tabs.proofs.FieldsLaws.{fieldsFrom-past, fieldsFrom-cons}
 
@@ -36,7 +37,8 @@ badForm-some (word ∷ name ∷ []) v vs e = let z : _≡_ {A = ℕ} 0 1 = cc in
 badForm-some (word ∷ name ∷ f ∷ fs) v vs e = refl
 
 pub badForm-is : (fields : List (List ℕ)) (v : List ℕ) (vs : List (List ℕ)) {word empty bad : Bool} → drop 2 fields ≡ v ∷ vs
-    → word ≡ same (getD fields 0 []) axisWord → empty ≡ same (getD fields 1 []) [] → bad ≡ any noNumber (drop 2 fields) → (not word || empty || bad) ≡ badForm fields
+    → word ≡ same (getD fields 0 []) axisWord → empty ≡ same (getD fields 1 []) [] → bad ≡ any noNumber (drop 2 fields)
+    → (not word || empty || bad) ≡ badForm fields
 badForm-is fields v vs some w e b = rw (w, e, b) (sym (badForm-some fields v vs some))
 
 pub same-empty : (name : List ℕ) → same name [] ≡ eqb (length name) 0
@@ -52,7 +54,8 @@ storedAt-past at [] t h = refl
 storedAt-past at (v ∷ vs) t h = rw (set-out t at v h) (storedAt-past (suc at) vs t (omega arith))
 
 -- with v the value of the field at a place of the line, and e its end
-pub storedAt-cons : (line : List ℕ) (p e v i : ℕ) (t : List ℕ) → e ≡ p + length (upTo 9 (drop p line)) → p ≤ length line → v ≡ fieldValue (take (e - p) (drop p line))
+pub storedAt-cons : (line : List ℕ) (p e v i : ℕ) (t : List ℕ) → e ≡ p + length (upTo 9 (drop p line)) → p ≤ length line
+    → v ≡ fieldValue (take (e - p) (drop p line))
     → storedAt i (map fieldValue (fieldsFrom line p)) t ≡ storedAt (i + 1) (map fieldValue (fieldsFrom line (e + 1))) (set t i v)
 unfolding storedAt
 storedAt-cons line p e v i t is l at = rw (fieldsFrom-cons line p e is l, at, add-one i)
@@ -63,7 +66,8 @@ fitting-past line p n h = rw (fieldsFrom-past line p h, take-nil)
 
 -- and from an index on in a table of n numbers
 pub fitting-cons : (line : List ℕ) (p e i n : ℕ) → e ≡ p + length (upTo 9 (drop p line)) → p ≤ length line → i < n
-    → length (take (n - i) (map fieldValue (fieldsFrom line p))) ≡ suc (length (take (n - (i + 1)) (map fieldValue (fieldsFrom line (e + 1)))))
+    → length (take (n - i) (map fieldValue (fieldsFrom line p)))
+    ≡ suc (length (take (n - (i + 1)) (map fieldValue (fieldsFrom line (e + 1)))))
 fitting-cons line p e i n is l h =
     let k : n - i ≡ suc (n - (i + 1)) = omega arith in
     rw (fieldsFrom-cons line p e is l, k)
@@ -71,6 +75,6 @@ fitting-cons line p e i n is l h =
 -- What is handed back of an axis line
 
 pub axisLine-is : (came : ℕ → Bool) (axes : ℕ) (fields : List (List ℕ)) {number name count : ℕ}
-    → number ≡ refusal came axes fields → name ≡ nameOf fields → count ≡ length (take 64 (valuesOf fields))
+    → number ≡ refusal came axes fields → name ≡ nameOf fields → count ≡ min mostValues (axisLength (axisOf fields))
     → record { refusal = number; name = name; count = count } ≡ axisLine came axes fields
 axisLine-is came axes fields r n k i = record { refusal = r i; name = n i; count = k i }

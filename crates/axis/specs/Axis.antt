@@ -1,13 +1,15 @@
--- The axis line (the scope, "Plans and images" and refusals 20 to 23), over the fields of a line. Assumes nothing.
+-- The axis line (the scope, "Plans and images" and refusals 20 to 23), over the fields of a line.
+-- Assumes nothing.
 use mathlib.Core.Bool.{Bool, true, cond, not, _||_}
 use mathlib.Core.List.{List, [], _∷_, map}
-use Prim.Native.Nat.{ℕ, suc}
+use Prim.Native.Nat.{ℕ, suc, min}
 use lib.Dec.{eqb, ltb, leb}
-use lib.ListN.{length, take, drop, set}
-use Rattle.lists.specs.Search.{any, anyPair}
+use lib.ListN.{length, drop, set}
+use Rattle.lists.specs.Search.{any}
 use Rattle.text.specs.Text.{same}
-use Rattle.names.specs.Names.{nameCount, limit}
-use Rattle.points.specs.Axes.{Axis}
+use Rattle.names.specs.Names.{nameCount}
+use Rattle.points.specs.Axes.{Axis, axisLength, mostAxes, mostValues}
+use Rattle.points.specs.OneToOne.{tooLarge, repeats}
 use Rattle.tabs.specs.Fields.{fieldValue, noNumber}
 use Rattle.line.specs.Words.{axisWord}
 use Rattle.line.specs.Line.{nameOf}
@@ -32,28 +34,34 @@ abbrev pub badName : (ℕ → Bool) → ℕ → Bool
 badName came name = leb nameCount name || came name
 
 -- 22: a value is too large for its name, or stands twice on its axis
-abbrev pub badValues : ℕ → List ℕ → Bool
-badValues name values = any (leb (limit name)) values || anyPair eqb values
+abbrev pub badValues : Axis → Bool
+badValues a = tooLarge a || repeats a
 
 -- 23: more than 8 axes, or more than 64 values on one
-abbrev pub tooMany : ℕ → List ℕ → Bool
-tooMany axes values = leb 8 axes || ltb 64 (length values)
+abbrev pub tooMany : ℕ → Axis → Bool
+tooMany axes a = leb mostAxes axes || ltb mostValues (axisLength a)
 
 -- an axis line, where some names came before on so many axes: the lowest number that applies, or 0
 unfoldable pub refusal : (ℕ → Bool) → ℕ → List (List ℕ) → ℕ
 refusal came axes fields =
     cond (badForm fields) 20 (
     cond (badName came (nameOf fields)) 21 (
-    cond (badValues (nameOf fields) (valuesOf fields)) 22 (
-    cond (tooMany axes (valuesOf fields)) 23 0)))
+    cond (badValues (axisOf fields)) 22 (
+    cond (tooMany axes (axisOf fields)) 23 0)))
 
 -- what is handed back of it: the refusal, its name's number, and how many values it has, at most 64
 abbrev pub axisLine : (ℕ → Bool) → ℕ → List (List ℕ) → AxisLine
-axisLine came axes fields = record { refusal = refusal came axes fields; name = nameOf fields; count = length (take 64 (valuesOf fields)) }
+axisLine came axes fields =
+    record {
+      refusal = refusal came axes fields;
+      name = nameOf fields;
+      count = min mostValues (axisLength (axisOf fields));
+    }
 
 -- after these axes
 abbrev pub axisRefusal : List Axis → List (List ℕ) → ℕ
-axisRefusal axes fields = refusal (λ name. any (λ (a : Axis). eqb (a .name) name) axes) (length axes) fields
+axisRefusal axes fields =
+    refusal (λ name. any (λ (a : Axis). eqb (a .name) name) axes) (length axes) fields
 
 -- numbers stored from an index on, as far as there is room
 unfoldable pub storedAt : ℕ → List ℕ → List ℕ → List ℕ

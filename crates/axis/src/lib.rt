@@ -6,22 +6,27 @@ ghost use lib.Dec.{eqb, leb};
 ghost use lib.ListN.{length, getD, take, drop};
 ghost use Rattle.lists.specs.Search.{any, anyPair};
 ghost use Rattle.text.specs.Text.{fieldsOf};
+ghost use Rattle.points.specs.Axes.{mostAxes};
 ghost use Rattle.tabs.specs.Fields.{noNumber};
 ghost use Rattle.values.specs.Block.{valuesFrom, BlockAt};
 ghost use Rattle.axis.specs.Axis.{valuesOf, badForm, badName, axisLine, storedAt};
+use points::AXES;
 use values::Block;
 use values::Test;
 
-// What an `axis` line is: 0 or its refusal, its name's number, and how many values it has, at most 64.
+// What an `axis` line is: 0 or its refusal, its name's number, and how many values it has, at most
+// 64.
 pub struct AxisLine {
     pub refusal: u32,
     pub name: u64,
     pub count: u64,
 }
 
-// An `axis` line after so many axes, where these names came before. Its first 64 values are read once.
+// An `axis` line after so many axes, where these names came before. Its first 64 values are read
+// once.
 pub fn axis_of(line: &[u8], seen: [bool; names::COUNT], axes: u64) -> AxisLine
-    ensures { λ r. ⌜ r ≡ axisLine (λ name. getD seen name false) axes (fieldsOf (now (line .entry))) ⌝ }
+    ensures { λ r. ⌜ r
+        ≡ axisLine (λ name. getD seen name false) axes (fieldsOf (now (line .entry))) ⌝ }
 {
     let values = tabs::third_at(line);
     let name = line::name_of(line);
@@ -47,10 +52,13 @@ pub fn axis_of(line: &[u8], seen: [bool; names::COUNT], axes: u64) -> AxisLine
     axis_line(0, name, count)
 }
 
-// Stores the values of an `axis` line from an index on, as far as there is room. Hands back how many these are.
+// Stores the values of an `axis` line from an index on, as far as there is room. Hands back how
+// many these are.
 pub fn store_values(line: &[u8], table: &mut [u64], at: usize) -> u64
-    ensures told { λ r. ⌜ r ≡ length (take (length (now (table .entry)) - at) (valuesOf (fieldsOf (now (line .entry))))) ⌝ }
-    ensures entered { λ r. ⌜ now (table .exit) ≡ storedAt at (valuesOf (fieldsOf (now (line .entry)))) (now (table .entry)) ⌝ }
+    ensures told { λ r. let values = valuesOf (fieldsOf (now (line .entry))) in
+        ⌜ r ≡ length (take (length (now (table .entry)) - at) values) ⌝ }
+    ensures entered { λ r. let values = valuesOf (fieldsOf (now (line .entry))) in
+        ⌜ now (table .exit) ≡ storedAt at values (now (table .entry)) ⌝ }
 {
     let mut p = tabs::third_at(line);
     let mut i = at;
@@ -96,10 +104,12 @@ fn came(seen: [bool; names::COUNT], name: u64) -> bool
     seen[name as usize]
 }
 
-// 22: a value from a place on is above this one, or stands twice, where the first block of them is known.
+// 22: a value from a place on is above this one, or stands twice, where the first block of them is
+// known.
 fn bad_values(line: &[u8], from: usize, most: u64, b: Block) -> bool
     requires { ⌜ BlockAt (now line) from most b ⌝ }
-    ensures { λ r. ⌜ r ≡ (any (leb (most + 1)) (valuesFrom (now (line .entry)) from) || anyPair eqb (valuesFrom (now (line .entry)) from)) ⌝ }
+    ensures { λ r. let values = valuesFrom (now (line .entry)) from in
+        ⌜ r ≡ (any (leb (most + 1)) values || anyPair eqb values) ⌝ }
 {
     let values = b.values;
     let count = b.count;
@@ -117,9 +127,9 @@ fn bad_values(line: &[u8], from: usize, most: u64, b: Block) -> bool
 
 // 23: more than 8 axes, or more than 64 values on one: some are left behind the first block.
 fn too_many(axes: u64, left: bool) -> bool
-    ensures { λ r. ⌜ r ≡ (leb 8 axes || left) ⌝ }
+    ensures { λ r. ⌜ r ≡ (leb mostAxes axes || left) ⌝ }
 {
-    (8 <= axes) | left
+    (AXES <= axes) | left
 }
 
 // What is handed back of an `axis` line.

@@ -7,9 +7,7 @@ ghost use lib.Seq.{sets};
 ghost use Rattle.c_plan.specs.Plan.{planResultCount, planResults, PlanReadCall, LinesCall};
 use c_arrays::BAD_CALL;
 use plan::Plan;
-
-// The numbers of a table with room for every plan's axes (`room` of plan's specs).
-const ROOM: usize = 528;
+use plan::ROOM;
 
 // How many results of reading there are (`planResultCount` of the specs).
 pub const PLAN_RESULTS: usize = 5;

@@ -1,11 +1,15 @@
-// How many points the axes of a lent table give (`Rattle.points.specs.Table`). No public function has a requires.
+// How many points the axes of a lent table give (`Rattle.points.specs.Table`). No public function
+// has a requires.
 ghost use mathlib.Core.Path.{_≡_};
 ghost use lib.Dec.{leb};
 ghost use Rattle.lists.specs.Search.{any};
 ghost use Rattle.names.specs.Names.{limit};
 ghost use Rattle.points.specs.Table.{holdsAxis, pointsIn};
+use points::AXES;
+use points::VALUES;
 
-// Is a value too large for the name? The limits are powers of two, so that one test of the values joined bit by bit says it of all.
+// Is a value too large for the name? The limits are powers of two, so that one test of the values
+// joined bit by bit says it of all.
 fn too_large(name: u64, values: &[u64]) -> bool
     ensures { λ r. ⌜ r ≡ any (leb (limit name)) (now (values .entry)) ⌝ }
 {
@@ -27,8 +31,8 @@ fn holds_axis(table: &[u64]) -> bool
         return false;
     }
     let name = table[0];
-    let values = table[1];
-    if !((name < names::COUNT as u64) & (1 <= values) & (values <= 64) & (values <= len - 2)) {
+    let values = entry::length(table);
+    if !((name < names::COUNT as u64) & (1 <= values) & (values <= VALUES) & (values <= len - 2)) {
         return false;
     }
     let end = 2 + values as usize;
@@ -39,7 +43,7 @@ fn holds_axis(table: &[u64]) -> bool
 pub fn points(table: &[u64], axes: u64) -> u64
     ensures { λ r. ⌜ r ≡ pointsIn axes (now (table .entry)) ⌝ }
 {
-    if axes > 8 {
+    if axes > AXES {
         return 0;
     }
     let mut count: u64 = 1;
@@ -50,9 +54,8 @@ pub fn points(table: &[u64], axes: u64) -> u64
         if !holds_axis(rest) {
             return 0;
         }
-        let values = rest[1];
-        count *= values;
-        at += 2 + values as usize;
+        count *= entry::length(rest);
+        at += entry::end(rest);
         i += 1;
     }
     count

@@ -16,13 +16,15 @@ use Rattle.field.specs.Field.{registerBit, register}
 
 module _ (m : List ℕ) (a n : ℕ) (p : 0 < n) (h : n ≤ 32) where
   -- the upper bits are all t
-  filled : (signed : Bool) (t : ℕ) → cond signed (bitAt m (a + n - 1)) 0 ≡ t → register m a n signed + t * 2 ^ n ≡ number (bitAt m) a n + t * 2 ^ 32
+  filled : (signed : Bool) (t : ℕ) → cond signed (bitAt m (a + n - 1)) 0 ≡ t
+      → register m a n signed + t * 2 ^ n ≡ number (bitAt m) a n + t * 2 ^ 32
   unfolding register
   filled signed t e =
       let w : n + (32 - n) ≡ 32 = omega arith in
       let f : ℕ → ℕ = registerBit m a n signed in
       let low : number f 0 n ≡ number (bitAt m) a n = number-ext f (bitAt m) 0 a n (λ j hj. rw (zero-add j, lt-ltb j n hj)) in
-      let high : number f (0 + n) (32 - n) + t ≡ t * 2 ^ (32 - n) = number-same f t (0 + n) (32 - n) (λ b hb. rw (le-ltb b n (omega arith)) e) in
+      let high : number f (0 + n) (32 - n) + t ≡ t * 2 ^ (32 - n) =
+      number-same f t (0 + n) (32 - n) (λ b hb. rw (le-ltb b n (omega arith)) e) in
       ap (λ (k : ℕ). number f 0 k + t * 2 ^ n) (sym w)
       ∙ ap (λ (x : ℕ). x + t * 2 ^ n) (number-add f 0 n (32 - n))
       ∙ joined (number f 0 n) (2 ^ n) (number f (0 + n) (32 - n)) (t * 2 ^ (32 - n)) high

@@ -13,6 +13,7 @@ use Rattle.memory.specs.Bits.{Memory, bitOf, bitAt, withField}
 use Rattle.memory.proofs.NumberLaws.{bit-number}
 use Rattle.memory.proofs.MemoryLaws.{bitAt-lt}
 use Rattle.memory.proofs.FieldLaws.{length-withField, bitAt-withField, read-withField, withField-same, writtenBit-below, writtenBit-above}
+use Rattle.field_refusal.specs.Size.{badSize, meant}
 use Rattle.field.specs.Field.{refusal, registerBit, register, fieldRead, fieldWritten}
 use Rattle.field_refusal.proofs.RefusalLaws.{accepted}
 use Rattle.field.proofs.RegisterLaws.{register-zero}
@@ -22,31 +23,32 @@ pub written-refused : (m : List ℕ) (a n x : ℕ) → (refusal (length m) a n �
 unfolding fieldWritten
 written-refused m a n x h = rw (ne-eqb _ _ h)
 
-fieldRead-accepted : (m : List ℕ) (a n : ℕ) → refusal (length m) a n ≡ 0 → (signed : Bool) → fieldRead m a n signed ≡ record { answer = 0; value = register m a n signed }
+fieldRead-accepted : (m : List ℕ) (a n : ℕ) → refusal (length m) a n ≡ 0 → (signed : Bool)
+    → fieldRead m a n signed ≡ record { answer = 0; value = register m a (meant n) signed }
 unfolding fieldRead
 fieldRead-accepted m a n e signed = rw (eq-eqb _ _ e)
 
 module _ (m : List ℕ) (a n x : ℕ) (e : refusal (length m) a n ≡ 0) where
-  written-field : fieldWritten m a n x ≡ withField m a n x
+  written-field : fieldWritten m a n x ≡ withField m a (meant n) x
   unfolding fieldWritten
   written-field = rw (eq-eqb _ _ e)
 
-  pub read-back : (fieldRead (fieldWritten m a n x) a n false .answer ≡ 0) × (fieldRead (fieldWritten m a n x) a n false .value ≡ x % 2 ^ n)
+  pub read-back : let back = fieldRead (fieldWritten m a n x) a n false in (back .answer ≡ 0) × (back .value ≡ x % 2 ^ meant n)
   read-back =
-      let w : List ℕ = withField m a n x in
+      let w : List ℕ = withField m a (meant n) x in
       let h = accepted (length m) a n e in
-      let e′ : refusal (length w) a n ≡ 0 = ap (λ (k : ℕ). refusal k a n) (length-withField m a n x) ∙ e in
+      let e′ : refusal (length w) a n ≡ 0 = ap (λ (k : ℕ). refusal k a n) (length-withField m a (meant n) x) ∙ e in
       rw (written-field, fieldRead-accepted w a n e′ false)
-      (refl, register-zero w a n (h .size .some) (h .size .most) false refl ∙ read-withField m a n x (h .inside))
+      (refl, register-zero w a (meant n) (h .bits .some) (h .bits .most) false refl ∙ read-withField m a (meant n) x (h .inside))
 
-pub write-frame : (m : List ℕ) (a n x b : ℕ) → (b < a) ⊎ (a + n ≤ b) → bitAt (fieldWritten m a n x) b ≡ bitAt m b
+pub write-frame : (m : List ℕ) (a n x b : ℕ) → (b < a) ⊎ (a + meant n ≤ b) → bitAt (fieldWritten m a n x) b ≡ bitAt m b
 unfolding fieldWritten
 write-frame m a n x b h = go (eqb (refusal (length m) a n) 0) refl
   where
-    go : (t : Bool) → eqb (refusal (length m) a n) 0 ≡ t → bitAt (cond t (withField m a n x) m) b ≡ bitAt m b
+    go : (t : Bool) → eqb (refusal (length m) a n) 0 ≡ t → bitAt (cond t (withField m a (meant n) x) m) b ≡ bitAt m b
     go true e =
-        bitAt-withField m a n x (accepted (length m) a n (eqb-true _ _ e) .inside) b
-        ∙ ⊎-elim (λ l. writtenBit-below m a n x b l) (λ l. writtenBit-above m a n x b l) h
+        bitAt-withField m a (meant n) x (accepted (length m) a n (eqb-true _ _ e) .inside) b
+        ∙ ⊎-elim (λ l. writtenBit-below m a (meant n) x b l) (λ l. writtenBit-above m a (meant n) x b l) h
     go false e = refl
 
 -- the register's low n bits are the field's
@@ -66,10 +68,11 @@ pub write-back : (m : List ℕ) (a n : ℕ) (signed : Bool) → Memory (length m
     → fieldWritten m a n (fieldRead m a n signed .value) ≡ m
 write-back m a n signed g e =
     let h = accepted (length m) a n e in
-    rw (fieldRead-accepted m a n e signed) (written-field m a n (register m a n signed) e
-    ∙ withField-same a n (register m a n signed) g (register-bit m a n signed (h .size .most)) (h .inside))
+    let r = register m a (meant n) signed in
+    rw (fieldRead-accepted m a n e signed)
+    (written-field m a n r e ∙ withField-same a (meant n) r g (register-bit m a (meant n) signed (h .bits .most)) (h .inside))
 
-pub past-end : (words a n : ℕ) → 0 < words → words ≤ 1048576 → 0 < n → n ≤ 32 → 16 * words < a + n → refusal words a n ≡ 17
+pub past-end : (words a n : ℕ) → 0 < words → words ≤ 1048576 → badSize n ≡ false → 16 * words < a + meant n → refusal words a n ≡ 17
 unfolding refusal
-past-end words a n p q r s h =
-    rw (ne-eqb words 0 (omega arith), le-ltb 1048576 words q, ne-eqb n 0 (omega arith), le-ltb 32 n s, le-leb (16 * words) (a + n - 1) (omega arith))
+past-end words a n p q e h =
+    rw (ne-eqb words 0 (omega arith), le-ltb 1048576 words q, e, le-leb (16 * words) (a + meant n - 1) (omega arith))

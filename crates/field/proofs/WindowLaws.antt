@@ -40,7 +40,8 @@ module _ {n : ℕ} {m : List ℕ} (g : Memory n m) where
   pub store-one : (i v : ℕ) → i < n → set m i (v % 65536) ≡ withField m (16 * i) 16 v
   store-one i v h = set-withField i v g h
 
-  pub store-more : (i k v : ℕ) → i + k < n → set (withField m (16 * i) (16 * k) v) (i + k) (v / 2 ^ (16 * k) % 65536) ≡ withField m (16 * i) (16 * k + 16) v
+  pub store-more : (i k v : ℕ) → i + k < n
+      → set (withField m (16 * i) (16 * k) v) (i + k) (v / 2 ^ (16 * k) % 65536) ≡ withField m (16 * i) (16 * k + 16) v
   store-more i k v h =
       let e : 16 * (i + k) ≡ 16 * i + 16 * k = omega arith in
       set-withField (i + k) (v / 2 ^ (16 * k)) (memory-withField m (16 * i) (16 * k) v g) h

@@ -1,4 +1,5 @@
-// Fields of 1 to 32 bits at any bit address of a lent memory: read and write.
+// Fields of 1 to 32 bits at any bit address of a lent memory: read and write. A call takes a size;
+// all below it takes the bits that the size means.
 ghost use mathlib.Core.Path.{_≡_};
 ghost use Prim.Native.Nat.{ℕ, _+_, _*_, _/_, _%_, _^_, _<_, _≤_};
 ghost use lib.ListN.{length};
@@ -13,25 +14,30 @@ pub struct FieldRead {
 
 // Reads a field into a register, zero or sign extended. The memory stays as lent.
 pub fn read(memory: &mut [u16], address: u32, size: u32, signed: bool) -> FieldRead
-    ensures { λ r. ⌜ (r ≡ fieldRead (now (memory .entry)) address size signed) × (now (memory .exit) ≡ now (memory .entry)) ⌝ }
+    ensures { λ r. let m = now (memory .entry) in
+        ⌜ (r ≡ fieldRead m address size signed) × (now (memory .exit) ≡ m) ⌝ }
 {
     let answer = field_refusal::refusal_of(memory.len(), address, size);
     if answer != 0 {
         return FieldRead { answer, value: 0 };
     }
-    let value = read_register(memory, address as u64, size as u64, signed);
+    let bits = field_refusal::meant(size);
+    let value = read_register(memory, address as u64, bits as u64, signed);
     FieldRead { answer, value }
 }
 
 // Writes the low bits of a register to a field, and answers 0 or the refusal's number.
 pub fn write(memory: &mut [u16], address: u32, size: u32, value: u32) -> u32
-    ensures { λ r. ⌜ (r ≡ refusal (length (now (memory .entry))) address size) × (now (memory .exit) ≡ fieldWritten (now (memory .entry)) address size value) ⌝ }
+    ensures { λ r. let m = now (memory .entry) in
+        ⌜ (r ≡ refusal (length m) address size)
+        × (now (memory .exit) ≡ fieldWritten m address size value) ⌝ }
 {
     let answer = field_refusal::refusal_of(memory.len(), address, size);
     if answer != 0 {
         return answer;
     }
-    write_bits(memory, address as u64, size as u64, value as u64);
+    let bits = field_refusal::meant(size);
+    write_bits(memory, address as u64, bits as u64, value as u64);
     answer
 }
 
@@ -48,8 +54,8 @@ fn read_register(memory: &[u16], address: u64, size: u64, signed: bool) -> u32
     bits as u32
 }
 
-// The field's bits as a number. The words taken are three where two are not enough, and else two if there are two: whether one would be enough
-// is not asked, as that test is often guessed wrong.
+// The field's bits as a number. The words taken are three where two are not enough, and else two if
+// there are two: whether one would be enough is not asked, as that test is often guessed wrong.
 fn read_bits(memory: &[u16], address: u64, size: u64) -> u64
     requires { ⌜ (0 < size) × (size ≤ 32) × (address + size ≤ 16 * length (now memory)) ⌝ }
     ensures { λ r. ⌜ r ≡ number (bitAt (now (memory .entry))) address size ⌝ }
@@ -74,7 +80,8 @@ fn read_words(memory: &[u16], at: usize, count: u64, s: u64, size: u64) -> u64
     taken(window(memory, at, count), s, size)
 }
 
-// Writes the low bits of a number to the field, and no other bit. The words are those that a read takes.
+// Writes the low bits of a number to the field, and no other bit. The words are those that a read
+// takes.
 fn write_bits(memory: &mut [u16], address: u64, size: u64, x: u64)
     requires { ⌜ (0 < size) × (size ≤ 32) × (address + size ≤ 16 * length (now memory)) ⌝ }
     ensures { λ _. ⌜ now (memory .exit) ≡ withField (now (memory .entry)) address size x ⌝ }
@@ -120,8 +127,10 @@ fn window(memory: &[u16], at: usize, count: u64) -> u64
 
 // Stores the lowest one to three words of a number, the lowest first.
 fn store(memory: &mut [u16], at: usize, count: u64, v: u64)
-    requires { ⌜ (0 < count) × (count ≤ 3) × (at + count ≤ length (now memory)) × Memory (length (now memory)) (now memory) ⌝ }
-    ensures { λ _. ⌜ now (memory .exit) ≡ withField (now (memory .entry)) (16 * at) (16 * count) v ⌝ }
+    requires { ⌜ (0 < count) × (count ≤ 3) × (at + count ≤ length (now memory))
+        × Memory (length (now memory)) (now memory) ⌝ }
+    ensures { λ _. ⌜ now (memory .exit)
+        ≡ withField (now (memory .entry)) (16 * at) (16 * count) v ⌝ }
 {
     memory[at] = (v % 65536) as u16;
     if count == 1 {

@@ -1,17 +1,15 @@
 -- The refusals of a field call (the scope, "Refusal numbers"). Assumes nothing.
-use mathlib.Core.Bool.{Bool, cond, _||_}
+use mathlib.Core.Bool.{Bool, cond}
 use Prim.Native.Nat.{ℕ, _+_, _-_, _*_}
-use lib.Dec.{eqb, leb, ltb}
+use lib.Dec.{leb}
 use Rattle.memory.specs.Bits.{noMemory}
+use Rattle.field_refusal.specs.Size.{badSize, meant}
 
--- refusal 18: a field size is outside 1 to 32
-abbrev pub badSize : ℕ → Bool
-badSize n = eqb n 0 || ltb 32 n
-
--- refusal 17: some field bit has an address of 16 x words or more
+-- refusal 17: some bit of a field of n bits has an address of 16 x words or more
 abbrev pub pastEnd : ℕ → ℕ → ℕ → Bool
 pastEnd words a n = leb (16 * words) (a + n - 1)
 
 -- a field call checks 10, 18, 17 in that order; 0 where none applies
 unfoldable pub refusal : ℕ → ℕ → ℕ → ℕ
-refusal words a n = cond (noMemory words) 10 (cond (badSize n) 18 (cond (pastEnd words a n) 17 0))
+refusal words a size =
+    cond (noMemory words) 10 (cond (badSize size) 18 (cond (pastEnd words a (meant size)) 17 0))

@@ -1,6 +1,7 @@
 -- The figures, by computing. Assumes nothing.
 use mathlib.Core.Path.{refl}
 use Rattle.memory.specs.Bits.{bitOf, bitAt, number}
+use Rattle.field_refusal.specs.Size.{meant}
 use Rattle.field.specs.Field.{refusal, register, fieldRead}
 use Rattle.timing.specs.Cycles.{caseOf}
 use Rattle.image.specs.Image.{stepped}
@@ -19,15 +20,15 @@ use Rattle.arrays.specs.Array.{part, vAfter, destStart, srcStart, drawingOf}
 use Rattle.array_refusal.specs.Refusal.{refusalOf}
 use Rattle.array_refusal.specs.Refusal as drawing
 use Rattle.drawing.specs.Draw.{outcomeAt, outcome}
-use Rattle.points.specs.Axes.{count}
+use Rattle.points.specs.Axes.{axisLength, count}
 use Rattle.points.specs.Points.{indices}
 use Rattle.figures.specs.Figures.{Figures}
 
 pub figures : Figures
-unfolding bitOf bitAt number refusal register fieldRead caseOf stepped any first anyPair badState latest lookup fetched operations
+unfolding bitOf bitAt number meant refusal register fieldRead caseOf stepped any first anyPair badState latest lookup fetched operations
     processed pixelOf result pixelAfter withPixel wordAfter xyAddress badXYPitch common clipped addressAt addressOf reaches
-    leavesMemory lowest xyDestination dravOf part vAfter vUnder destStart srcStart drawingOf refusalOf drawing.refusal outcomeAt outcome count
-    indices
+    leavesMemory lowest xyDestination dravOf part vAfter vUnder destStart srcStart drawingOf refusalOf drawing.refusal outcomeAt
+    outcome axisLength count indices
 figures =
     record {
       field = refl;

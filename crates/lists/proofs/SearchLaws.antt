@@ -2,26 +2,32 @@
 use mathlib.Core.Path.{_≡_, refl, sym, ap, fun-ext, _∙_}
 use mathlib.Core.Bool.{Bool, true, false, cond, _||_, or-assoc, or-false}
 use mathlib.Core.List.{List, [], _∷_, _++_}
-use Prim.Native.Nat.{ℕ, zero, suc}
+use Prim.Native.Nat.{ℕ, zero, suc, _≤_}
 use native.Mathlib.Omega.{arith}
 use borrow.Author.Tests.{lt-ltb}
 use lib.Dec.{ltb, leb·suc-suc}
 use lib.ListN.{length, getD, set}
 use Rattle.lists.specs.Search.{any, first, anyPair}
+use Rattle.lists.specs.Tabulate.{tabulate}
 use Rattle.lists.proofs.TestLaws.{or-eq-false, or-left-comm, or-swap, suc-cond}
 
 -- Searches of a list of known length, written out
-
--- the list f 0, f 1, .. of n elements
-abbrev pub tabulate : {A : Type 0} → ℕ → (ℕ → A) → List A
-tabulate zero f = []
-tabulate (suc n) f = f 0 ∷ tabulate n (λ i. f (suc i))
 
 pub tabulate-getD : {A : Type 0} (n : ℕ) (d : A) (l : List A) → length l ≡ n → l ≡ tabulate n (λ i. getD l i d)
 tabulate-getD zero d [] h = refl
 tabulate-getD zero d (x ∷ l) h = absurd (omega arith)
 tabulate-getD (suc n) d [] h = absurd (omega arith)
 tabulate-getD (suc n) d (x ∷ l) h = ap (λ (t : List _). x ∷ t) (tabulate-getD n d l (omega arith))
+
+pub length-tabulate : {A : Type 0} (n : ℕ) (f : ℕ → A) → length (tabulate n f) ≡ n
+length-tabulate zero f = refl
+length-tabulate (suc n) f = ap suc (length-tabulate n (λ i. f (suc i)))
+
+-- with elements that are the default from the length on, each index gives its element
+pub getD-tabulate : {A : Type 0} (n : ℕ) (f : ℕ → A) (d : A) → ((i : ℕ) → n ≤ i → f i ≡ d) → (i : ℕ) → getD (tabulate n f) i d ≡ f i
+getD-tabulate zero f d past i = sym (past i (omega arith))
+getD-tabulate (suc n) f d past zero = refl
+getD-tabulate (suc n) f d past (suc i) = getD-tabulate n (λ j. f (suc j)) d (λ j h. past (suc j) (omega arith)) i
 
 -- does some number below n pass the test?
 abbrev pub anyBelow : ℕ → (ℕ → Bool) → Bool

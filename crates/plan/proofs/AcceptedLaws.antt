@@ -86,7 +86,9 @@ memoryLine-ranged (l ∷ m ∷ ls) =
 
 reading-ranged : (text : List ℕ) → Where Ranged (reading text)
 unfolding reading
-reading-ranged text = cond-both (Where Ranged) (ltb textLimit (length text)) _ _ (λ q e. absurd (omega arith)) (λ q. memoryLine-ranged (kept 1 (linesOf text)))
+reading-ranged text =
+    cond-both (Where Ranged) (ltb textLimit (length text)) _ _ (λ q e. absurd (omega arith))
+    (λ q. memoryLine-ranged (kept 1 (linesOf text)))
 
 pub reading-accepted : (text : List ℕ) → reading text .answer ≡ 0 → Accepted (reading text)
 reading-accepted text e =

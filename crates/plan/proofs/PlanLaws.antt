@@ -1,29 +1,14 @@
--- A plan that is accepted: its table has room, its reading is accepted, and its axes can be read from the table. Assumes nothing.
+-- What `read` hands back: a refused plan, or an accepted one with its table. No contract cites this file. Assumes nothing.
 use mathlib.Core.Path.{_≡_, sym, ap, _∙_}
 use mathlib.Core.List.{List}
 use Prim.Native.Nat.{ℕ, _<_, _≤_}
 use native.Mathlib.Omega.{arith}
-use borrow.Author.Tests.{eqb-true, eq-eqb, ne-eqb, ltb-false, lt-ltb, le-ltb}
-use lib.Dec.{eqb, ltb}
+use borrow.Author.Tests.{eq-eqb, ne-eqb, lt-ltb, le-ltb}
 use lib.ListN.{length}
-use Rattle.points.specs.Axes.{count}
-use Rattle.points.specs.Table.{axesIn}
 use Rattle.plan.specs.declared.Plan.{Plan}
 use Rattle.plan.specs.Reading.{Reading, textLimit, reading}
-use Rattle.plan.specs.Table.{room, refusedPlan, acceptedPlan, summary, planOf, stored, tableAfter}
+use Rattle.plan.specs.Table.{room, refusedPlan, summary, planOf, stored, tableAfter}
 use Rattle.plan.specs.Cursor.{readingOf}
-use Rattle.lists.proofs.TestLaws.{cond-both}
-use Rattle.plan.proofs.TableLaws.{axesIn-stored}
-
-pub record PlanRead (text t : List ℕ) : Type 0 where
-  pub has-room : room ≤ length t
-  pub reads : reading text .answer ≡ 0
-  pub plan-is : planOf text (length t) ≡ acceptedPlan (reading text .words) (reading text .draw) (length (reading text .axes)) (count (reading text .axes))
-  pub table-is : tableAfter text t ≡ stored (reading text .axes) t
-  pub axes-is : axesIn (length (reading text .axes)) (tableAfter text t) ≡ reading text .axes
-
-summary-accepted : (r : Reading) → summary r .answer ≡ 0 → r .answer ≡ 0
-summary-accepted r = cond-both (λ (p : Plan). p .answer ≡ 0 → r .answer ≡ 0) (eqb (r .answer) 0) _ _ (λ q e. eqb-true _ _ q) (λ q e. e)
 
 -- the table, which a refused call leaves as it was
 
@@ -40,12 +25,6 @@ module _ (text t : List ℕ) where
   pub planOf-room : room ≤ length t → planOf text (length t) ≡ summary (reading text)
   unfolding planOf
   planOf-room h = rw (le-ltb _ _ h)
-
-  accepted-parts : planOf text (length t) .answer ≡ 0 → (room ≤ length t) × (reading text .answer ≡ 0)
-  unfolding planOf
-  accepted-parts =
-      cond-both (λ (p : Plan). p .answer ≡ 0 → (room ≤ length t) × (reading text .answer ≡ 0)) (ltb (length t) room) _ _
-      (λ q e. absurd (omega arith)) (λ q e. (ltb-false _ _ q, summary-accepted (reading text) e))
 
 -- what `read` hands back
 
@@ -77,16 +56,5 @@ module _ (text t : List ℕ) {plan : Plan} where
       answered-bad n = answered-refused is n
 
       pub answered-good : {table : List ℕ} → plan .answer ≡ 0 → table ≡ stored (readingOf text .axes) t → Answered text t plan table
-      answered-good z s = (is, s ∙ ap (λ (r : Reading). stored (r .axes) t) (sym reading-is) ∙ sym (tableAfter-accepted text t (rw is at z)))
-
-pub plan-read : (text t : List ℕ) → planOf text (length t) .answer ≡ 0 → PlanRead text t
-plan-read text t e =
-    let (h, a) = accepted-parts text t e in
-    let table = tableAfter-accepted text t e in
-    record {
-      has-room = h;
-      reads = a;
-      plan-is = planOf-room text t h ∙ rw (eq-eqb _ _ a);
-      table-is = table;
-      axes-is = rw table (axesIn-stored (reading text .axes) t);
-    }
+      answered-good z s =
+          (is, s ∙ ap (λ (r : Reading). stored (r .axes) t) (sym reading-is) ∙ sym (tableAfter-accepted text t (rw is at z)))

@@ -76,6 +76,8 @@ module _ {M : Type 1} (𝓤 : URA M) (H : Heap 𝓤) (A : Atoms 𝓤) (W : Given
   text-out d =
       let vd : Values (D (κ, tt) .parts) = (d .text, (d .at, (d .line, tt))) in
       qed W (‵ (ReaderOwn κ d) ∷ []) ∵
-      use1 W (given (lowered d ∷ [] ≡ lowered d ∷ []) (‵ (all-own (D (κ, tt) .parts) (L (κ, tt)) vd))) (own-open 𝓤 H A W (D (κ, tt)) (L (κ, tt)) vd (lowered d)) $ learn ! (λ _.
-      use1 W (‵ (ownAt (D (κ, tt) .parts) (L (κ, tt)) 0 (d .text)) ⊛ ‵ (rest (D (κ, tt) .parts) (L (κ, tt)) 0 vd)) (own-out 𝓤 H A W (D (κ, tt) .parts) (L (κ, tt)) 0 vd) $ split ! $
+      use1 W (given (lowered d ∷ [] ≡ lowered d ∷ []) (‵ (all-own (D (κ, tt) .parts) (L (κ, tt)) vd)))
+      (own-open 𝓤 H A W (D (κ, tt)) (L (κ, tt)) vd (lowered d)) $ learn ! (λ _.
+      use1 W (‵ (ownAt (D (κ, tt) .parts) (L (κ, tt)) 0 (d .text)) ⊛ ‵ (rest (D (κ, tt) .parts) (L (κ, tt)) 0 vd))
+      (own-out 𝓤 H A W (D (κ, tt) .parts) (L (κ, tt)) 0 vd) $ split ! $
       move ! (1 ∷ []) $ drop ! $ done !)

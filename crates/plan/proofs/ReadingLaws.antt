@@ -19,7 +19,8 @@ use Rattle.lists.proofs.TestLaws.{cond-both}
 pub parts-some : (mark : ℕ) (s : List ℕ) → 0 < length (parts mark s)
 unfolding before parts
 parts-some mark [] = omega arith
-parts-some mark (c ∷ s) = cond-both (λ (ps : List (List ℕ)). 0 < length ps) (eqb c mark) _ _ (λ e. omega arith) (λ e. before-some (parts mark s))
+parts-some mark (c ∷ s) =
+    cond-both (λ (ps : List (List ℕ)). 0 < length ps) (eqb c mark) _ _ (λ e. omega arith) (λ e. before-some (parts mark s))
   where
     before-some : (ps : List (List ℕ)) → 0 < length (before c ps)
     before-some [] = omega arith
@@ -40,7 +41,8 @@ module _ (n : ℕ) (l : List ℕ) where
   kept-skip [] h e = absurd (omega arith)
   kept-skip (m ∷ ls) h e = rw e
 
-  pub kept-keep : (ls : List (List ℕ)) → 0 < length ls → skipped l ≡ false → kept n (l ∷ ls) ≡ record { number = n; bytes = l } ∷ kept (suc n) ls
+  pub kept-keep : (ls : List (List ℕ)) → 0 < length ls → skipped l ≡ false
+      → kept n (l ∷ ls) ≡ record { number = n; bytes = l } ∷ kept (suc n) ls
   unfolding kept
   kept-keep [] h e = absurd (omega arith)
   kept-keep (m ∷ ls) h e = rw e
@@ -61,7 +63,8 @@ module _ (l : Line) where
   memory-bad [] e = refl
   memory-bad (m ∷ ls) e = rw (eq-eqb _ _ e)
 
-  pub memory-next : (ls : List Line) → 0 < length ls → (memoryOf (fieldsOf (l .bytes)) ≡ 0 → ⊥) → memoryLine (l ∷ ls) ≡ drawLine (memoryOf (fieldsOf (l .bytes))) ls
+  pub memory-next : (ls : List Line) → 0 < length ls → (memoryOf (fieldsOf (l .bytes)) ≡ 0 → ⊥)
+      → memoryLine (l ∷ ls) ≡ drawLine (memoryOf (fieldsOf (l .bytes))) ls
   unfolding memoryLine
   memory-next [] h n = absurd (omega arith)
   memory-next (m ∷ ls) h n = rw (ne-eqb _ _ n)
@@ -76,7 +79,8 @@ module _ (words : ℕ) (l : Line) where
   draw-bad [] h = refl
   draw-bad (m ∷ ls) h = rw (le-ltb _ _ h)
 
-  pub draw-next : (ls : List Line) → 0 < length ls → drawOf (fieldsOf (l .bytes)) < 8 → drawLine words (l ∷ ls) ≡ axisLines words (drawOf (fieldsOf (l .bytes))) [] ls
+  pub draw-next : (ls : List Line) → 0 < length ls → drawOf (fieldsOf (l .bytes)) < 8
+      → drawLine words (l ∷ ls) ≡ axisLines words (drawOf (fieldsOf (l .bytes))) [] ls
   unfolding drawLine
   draw-next [] h d = absurd (omega arith)
   draw-next (m ∷ ls) h d = rw (lt-ltb _ _ d)

@@ -11,10 +11,10 @@ use Rattle.lists.specs.Search.{any, anyPair}
 use Rattle.lists.proofs.TestLaws.{cond-both, eqb-comm}
 use Rattle.lists.proofs.SearchLaws.{any-snoc, any-none, anyPair-snoc}
 use Rattle.text.specs.Text.{linesOf, fieldsOf}
-use Rattle.points.specs.Axes.{Axis}
+use Rattle.points.specs.Axes.{Axis, axisLength}
 use Rattle.points.specs.OneToOne.{unknown, sameName, badLength, tooLarge, repeats, Sound}
 use Rattle.line.specs.Line.{memoryOf, drawOf, nameOf}
-use Rattle.axis.specs.Axis.{valuesOf, axisOf, axisRefusal}
+use Rattle.axis.specs.Axis.{axisOf, axisRefusal}
 use Rattle.plan.specs.Reading.{Line, kept, Reading, textLimit, axisLines, drawLine, memoryLine, reading}
 use Rattle.plan.proofs.AxisLaws.{GoodOn, good-on}
 
@@ -24,7 +24,9 @@ sound-none = record { few = omega arith; known = refl; distinct = refl; lengths 
 
 module _ {axes : List Axis} {fields : List (List ℕ)} (s : Sound axes) (g : GoodOn axes fields) where
   new-name : any (sameName (axisOf fields)) axes ≡ false
-  new-name = any-none (λ (a : Axis). eqb (a .name) (nameOf fields)) (sameName (axisOf fields)) axes (λ a e. eqb-comm (nameOf fields) (a .name) ∙ e) (g .new)
+  new-name =
+      any-none (λ (a : Axis). eqb (a .name) (nameOf fields)) (sameName (axisOf fields)) axes (λ a e. eqb-comm (nameOf fields) (a .name) ∙ e)
+      (g .new)
 
   pub sound-next : Sound (axes ++ (axisOf fields ∷ []))
   sound-next =
@@ -33,7 +35,7 @@ module _ {axes : List Axis} {fields : List (List ℕ)} (s : Sound axes) (g : Goo
         few = omega (arith, length-append axes (a ∷ []), g .room);
         known = any-snoc unknown a axes ∙ rw (lt-leb _ _ (g .known)) (s .known);
         distinct = anyPair-snoc sameName (λ b c. eqb-comm (b .name) (c .name)) a axes ∙ rw new-name (s .distinct);
-        lengths = any-snoc badLength a axes ∙ rw (ne-eqb (length (valuesOf fields)) 0 (λ z. omega (arith, g .some)), le-ltb _ _ (g .few)) (s .lengths);
+        lengths = any-snoc badLength a axes ∙ rw (ne-eqb (axisLength a) 0 (λ z. omega (arith, g .some)), le-ltb _ _ (g .few)) (s .lengths);
         small = any-snoc tooLarge a axes ∙ rw (g .below) (s .small);
         unrepeated = any-snoc repeats a axes ∙ rw (g .once) (s .unrepeated);
       }
@@ -56,7 +58,8 @@ unfolding drawLine
 drawLine-sound words [] = sound-none
 drawLine-sound words (l ∷ []) = sound-none
 drawLine-sound words (l ∷ m ∷ ls) =
-    cond-both SoundReading (ltb (drawOf (fieldsOf (l .bytes))) 8) _ _ (λ e. axisLines-sound words _ [] (m ∷ ls) sound-none) (λ e. sound-none)
+    cond-both SoundReading (ltb (drawOf (fieldsOf (l .bytes))) 8) _ _ (λ e. axisLines-sound words _ [] (m ∷ ls) sound-none)
+    (λ e. sound-none)
 
 pub memoryLine-sound : (ls : List Line) → Sound (memoryLine ls .axes)
 unfolding memoryLine
@@ -67,4 +70,5 @@ memoryLine-sound (l ∷ m ∷ ls) =
 
 pub reading-sound : (text : List ℕ) → Sound (reading text .axes)
 unfolding reading
-reading-sound text = cond-both SoundReading (ltb textLimit (length text)) _ _ (λ e. sound-none) (λ e. memoryLine-sound (kept 1 (linesOf text)))
+reading-sound text =
+    cond-both SoundReading (ltb textLimit (length text)) _ _ (λ e. sound-none) (λ e. memoryLine-sound (kept 1 (linesOf text)))

@@ -3,22 +3,21 @@ use mathlib.Core.Path.{_≡_, refl, sym, ap, _∙_}
 use mathlib.Core.Bool.{Bool, true, false, _||_}
 use mathlib.Core.List.{List, [], _∷_, _++_, map}
 use Prim.Native.Nat.{ℕ, zero, suc, _+_, _*_, _^_, _<_, _≤_}
-use native.Mathlib.Nat.{mul-one, one-mul, mul-assoc, mul-le-mul, pow-succ'}
+use native.Mathlib.Nat.{mul-one, one-mul, mul-assoc}
 use native.Mathlib.Numerals.{add-one}
 use native.Mathlib.Omega.{arith}
-use borrow.Author.Tests.{eqb-true, eqb-false, ltb-false}
-use lib.Dec.{eqb, ltb}
+use borrow.Author.Tests.{eqb-true, eqb-false}
+use lib.Dec.{eqb}
 use lib.ListN.{length, getD, set, take, replicate, length-set, length-append}
 use lib.Seq.{getD-set-same, getD-set-other, take-suc-set}
 use Rattle.lists.specs.Search.{any}
-use Rattle.lists.proofs.TestLaws.{or-eq-false}
 use Rattle.lists.proofs.SearchLaws.{any-snoc}
 use Rattle.names.specs.Names.{nameCount}
-use Rattle.points.specs.Axes.{Axis, count}
-use Rattle.points.specs.OneToOne.{badLength}
+use Rattle.points.specs.Axes.{Axis, axisLength, mostValues, count}
+use Rattle.points.proofs.PointsLaws.{count-le}
 use Rattle.text.specs.Text.{fieldsOf}
 use Rattle.line.specs.Line.{nameOf}
-use Rattle.axis.specs.Axis.{valuesOf, axisOf, refusal, axisRefusal}
+use Rattle.axis.specs.Axis.{axisOf, refusal, axisRefusal}
 use Rattle.plan.specs.declared.State.{State}
 use Rattle.plan.specs.Table.{acceptedPlan}
 use Rattle.plan.specs.Cursor.{lineAt}
@@ -42,22 +41,32 @@ holds-none text =
 pub holds-going : {text : List ℕ} {s : State} (words draw : ℕ) → Holds text [] s → Holds text [] (going s (acceptedPlan words draw 0 1))
 unfolding count
 holds-going words draw h =
-    record { sound = sound-none; size = h .size; seen-is = h .seen-is; axes-is = refl; points-is = refl; places = h .places; starts-are = refl }
+    record {
+      sound = sound-none;
+      size = h .size;
+      seen-is = h .seen-is;
+      axes-is = refl;
+      points-is = refl;
+      places = h .places;
+      starts-are = refl;
+    }
 
 -- The refusal of an axis line
 
-pub heldRefusal-is : {text : List ℕ} {axes : List Axis} {s : State} (fields : List (List ℕ)) → Holds text axes s → heldRefusal s fields ≡ axisRefusal axes fields
+pub heldRefusal-is : {text : List ℕ} {axes : List Axis} {s : State} (fields : List (List ℕ)) → Holds text axes s
+    → heldRefusal s fields ≡ axisRefusal axes fields
 unfolding refusal
 heldRefusal-is fields h = rw (h .seen-is (nameOf fields), h .axes-is)
 
 -- An axis more
 
-count-append : (axes : List Axis) (a : Axis) → count (axes ++ (a ∷ [])) ≡ count axes * length (a .values)
+count-append : (axes : List Axis) (a : Axis) → count (axes ++ (a ∷ [])) ≡ count axes * axisLength a
 unfolding count
-count-append [] a = mul-one (length (a .values)) ∙ sym (one-mul (length (a .values)))
-count-append (b ∷ axes) a = rw (count-append axes a) (sym (mul-assoc (length (b .values)) (count axes) (length (a .values))))
+count-append [] a = mul-one (axisLength a) ∙ sym (one-mul (axisLength a))
+count-append (b ∷ axes) a = rw (count-append axes a) (sym (mul-assoc (axisLength b) (count axes) (axisLength a)))
 
-seen-next : (seen : List Bool) (new name : ℕ) → new < length seen → getD (set seen new true) name false ≡ (eqb new name || getD seen name false)
+seen-next : (seen : List Bool) (new name : ℕ) → new < length seen
+    → getD (set seen new true) name false ≡ (eqb new name || getD seen name false)
 seen-next seen new name h = go (eqb new name) refl
   where
     go : (b : Bool) → eqb new name ≡ b → getD (set seen new true) name false ≡ (b || getD seen name false)
@@ -72,8 +81,9 @@ axesFrom-set : (text starts : List ℕ) (n at : ℕ) → n < length starts
     → axesFrom text (set starts n at) (n + 1) ≡ axesFrom text starts n ++ (axisOf (fieldsOf (lineAt text at)) ∷ [])
 axesFrom-set text starts n at h = rw (add-one n, take-suc-set starts n at h) (map-snoc _ (take n starts) at)
 
-pub holds-next : {text : List ℕ} {axes : List Axis} {s : State} (fields : List (List ℕ)) (at : ℕ) → fields ≡ fieldsOf (lineAt text at) → Holds text axes s → axisRefusal axes fields ≡ 0
-    → Holds text (axes ++ (axisOf fields ∷ [])) (heldAfter s (nameOf fields) (length (valuesOf fields)) at)
+pub holds-next : {text : List ℕ} {axes : List Axis} {s : State} (fields : List (List ℕ)) (at : ℕ) → fields ≡ fieldsOf (lineAt text at)
+    → Holds text axes s → axisRefusal axes fields ≡ 0
+    → Holds text (axes ++ (axisOf fields ∷ [])) (heldAfter s (nameOf fields) (axisLength (axisOf fields)) at)
 holds-next {text} {axes} {s} fields at is h e =
     let g = good-on axes fields e in
     record {
@@ -86,18 +96,9 @@ holds-next {text} {axes} {s} fields at is h e =
       axes-is = omega (arith, h .axes-is, length-append axes (axisOf fields ∷ []));
       points-is = rw (h .points-is) (sym (count-append axes (axisOf fields)));
       places = length-set (s .starts) (s .plan .axes) at ∙ h .places;
-      starts-are = sym (axesFrom-set text (s .starts) (s .plan .axes) at (omega (arith, h .places, h .axes-is, g .room)) ∙ rw (← h .starts-are, ← is));
+      starts-are = sym
+          (axesFrom-set text (s .starts) (s .plan .axes) at (omega (arith, h .places, h .axes-is, g .room)) ∙ rw (← h .starts-are, ← is));
     }
 
--- At most 64 points to an axis
-
-count-le : (axes : List Axis) → any badLength axes ≡ false → count axes ≤ 64 ^ length axes
-unfolding any count
-count-le [] e = omega arith
-count-le (a ∷ axes) e =
-    let (bad, e′) = or-eq-false (badLength a) _ e in
-    let (none, many) = or-eq-false (eqb (length (a .values)) 0) (ltb 64 (length (a .values))) bad in
-    rw (pow-succ' 64 (length axes)) (mul-le-mul (ltb-false 64 _ many) (count-le axes e′))
-
-pub points-le : {text : List ℕ} {axes : List Axis} {s : State} → Holds text axes s → s .plan .points ≤ 64 ^ s .plan .axes
+pub points-le : {text : List ℕ} {axes : List Axis} {s : State} → Holds text axes s → s .plan .points ≤ mostValues ^ s .plan .axes
 points-le {axes} h = rw (h .points-is, h .axes-is) (count-le axes (h .sound .lengths))

@@ -1,4 +1,4 @@
--- Laws of `specs/Table.antt`: axes stored one after the other, and read back. No contract cites this file. Assumes nothing.
+-- Laws of `specs/Table.antt`: axes stored one after the other. No contract cites this file. Assumes nothing.
 use mathlib.Core.Path.{_≡_, refl, ap, _∙_}
 use mathlib.Core.List.{List, [], _∷_, _++_, append-nil}
 use Prim.Native.Nat.{ℕ, suc, _+_, _<_, _≤_}
@@ -7,8 +7,8 @@ use native.Mathlib.Omega.{arith}
 use lib.ListN.{length, set, drop, length-append, length-drop}
 use lib.Seq.{set-comm, sets, sets-eq, take-append-seam, drop-append-add, drop-drop}
 use Rattle.points.specs.Axes.{Axis}
-use Rattle.points.specs.Table.{tableOf, axesIn}
-use Rattle.points.proofs.TableLaws.{axesIn-tableOf, tableOf-append}
+use Rattle.points.specs.Table.{entryOf, tableOf}
+use Rattle.points.proofs.TableLaws.{tableOf-append}
 use Rattle.axis.specs.Axis.{storedAt}
 use Rattle.plan.specs.Table.{stored}
 
@@ -34,7 +34,7 @@ unfolding storedAt
 storedAt-sets [] t at = refl
 storedAt-sets (v ∷ vs) t at = storedAt-sets vs (set t at v) (suc at)
 
-pub storedAt-append : (xs ys zs : List ℕ) → length ys ≤ length zs → storedAt (length xs) ys (xs ++ zs) ≡ xs ++ ys ++ drop (length ys) zs
+storedAt-append : (xs ys zs : List ℕ) → length ys ≤ length zs → storedAt (length xs) ys (xs ++ zs) ≡ xs ++ ys ++ drop (length ys) zs
 storedAt-append xs ys zs h =
     storedAt-sets ys (xs ++ zs) (length xs)
     ∙ sets-eq ys (xs ++ zs) (length xs) (omega (arith, length-append xs zs))
@@ -50,27 +50,21 @@ module _ (axes : List Axis) (a : Axis) where
   abbrev pub withAxis : List Axis
   withAxis = axes ++ (a ∷ [])
 
-  abbrev pub entry : List ℕ
-  entry = a .name ∷ length (a .values) ∷ a .values
-
-  tableOf-withAxis : tableOf withAxis ≡ tableOf axes ++ entry
+  tableOf-withAxis : tableOf withAxis ≡ tableOf axes ++ entryOf a
   unfolding tableOf
-  tableOf-withAxis = tableOf-append axes (a ∷ []) ∙ rw (append-nil (a .values))
+  tableOf-withAxis = tableOf-append axes (a ∷ []) ∙ rw (append-nil (entryOf a))
 
-  pub length-withAxis : length (tableOf withAxis) ≡ length (tableOf axes) + 2 + length (a .values)
-  length-withAxis = ap length tableOf-withAxis ∙ length-append (tableOf axes) entry ∙ omega arith
+  pub length-withAxis : length (tableOf withAxis) ≡ length (tableOf axes) + length (entryOf a)
+  length-withAxis = ap length tableOf-withAxis ∙ length-append (tableOf axes) (entryOf a)
 
-  pub stored-next : (t : List ℕ) → length (tableOf axes) + 2 + length (a .values) ≤ length t
-      → storedAt (length (tableOf axes)) entry (stored axes t) ≡ stored withAxis t
+  pub stored-next : (t : List ℕ) → length (tableOf axes) + length (entryOf a) ≤ length t
+      → storedAt (length (tableOf axes)) (entryOf a) (stored axes t) ≡ stored withAxis t
   stored-next t h =
-      storedAt-append (tableOf axes) entry _ (omega (arith, length-drop (length (tableOf axes)) t))
-      ∙ rw (drop-drop, tableOf-withAxis, length-append (tableOf axes) entry)
+      storedAt-append (tableOf axes) (entryOf a) _ (omega (arith, length-drop (length (tableOf axes)) t))
+      ∙ rw (drop-drop, tableOf-withAxis, length-append (tableOf axes) (entryOf a))
 
--- The table keeps its length, and the axes can be read back
+-- The table keeps its length
 
 module _ (axes : List Axis) (t : List ℕ) where
   pub length-stored : length (tableOf axes) ≤ length t → length (stored axes t) ≡ length t
   length-stored h = omega (arith, length-append (tableOf axes) (drop (length (tableOf axes)) t), length-drop (length (tableOf axes)) t)
-
-  pub axesIn-stored : axesIn (length axes) (stored axes t) ≡ axes
-  axesIn-stored = axesIn-tableOf axes _

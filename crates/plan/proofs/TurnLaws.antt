@@ -20,7 +20,8 @@ use Rattle.plan.specs.Reading.{Reading, accepted, refusedAt, textLimit}
 use Rattle.plan.specs.Table.{refusedPlan, acceptedPlan, summary}
 use Rattle.plan.specs.Cursor.{lineAt, linesFrom, readingOf, Next}
 use Rattle.plan.specs.State.{nothingRead, going, shut, afterMemory, afterDraw, afterEnd, afterAxis, heldRefusal, Reads, Read, After}
-use Rattle.plan.proofs.ReadingLaws.{memory-last, memory-bad, memory-next, draw-last, draw-bad, draw-next, axes-end, axes-last, axes-bad, axes-next}
+use Rattle.plan.proofs.ReadingLaws.{memory-last, memory-bad, memory-next, draw-last, draw-bad, draw-next, axes-end, axes-last}
+use Rattle.plan.proofs.ReadingLaws.{axes-bad, axes-next}
 use Rattle.plan.proofs.CursorLaws.{lineOf, linesBehind, some-behind, next-line, next-last}
 use Rattle.plan.proofs.StateLaws.{holds-none, holds-going, holds-next, heldRefusal-is}
 
@@ -61,15 +62,17 @@ module _ {text : List ℕ} {c : Cursor} {s : State} where
   pub after-shut : s .wanted ≡ false → Read text s → After text c s
   after-shut e r = record { more = λ t. absurd (true≢false (sym t ∙ e)); done = λ f. r }
 
-  pub after-going : s .wanted ≡ true → c .end < length text → Reads text s (c .end + 1) (c .line + 1) → After text c s
+  after-going : s .wanted ≡ true → c .end < length text → Reads text s (c .end + 1) (c .line + 1) → After text c s
   after-going e h r = record { more = λ t. (h, r); done = λ f. absurd (true≢false (sym e ∙ f)) }
 
 -- a refusal
-read-refused : {text : List ℕ} (s : State) (number line : ℕ) → (number ≡ 0 → ⊥) → readingOf text ≡ refusedAt number line → Read text (shut s (refusedPlan number line))
+read-refused : {text : List ℕ} (s : State) (number line : ℕ) → (number ≡ 0 → ⊥) → readingOf text ≡ refusedAt number line
+    → Read text (shut s (refusedPlan number line))
 read-refused s number line n e = record { plan-is = rw (e, ne-eqb number 0 n); starts-at = λ z. absurd (n z) }
 
 module _ {text : List ℕ} {c : Cursor} {s : State} (n : Next text (c .at) (c .line) c) (r : Reads text s (c .at) (c .line)) where
-  after-refused : {number : ℕ} → (number ≡ 0 → ⊥) → readingOf text ≡ refusedAt number (c .line) → After text c (shut s (refusedPlan number (c .line)))
+  after-refused : {number : ℕ} → (number ≡ 0 → ⊥) → readingOf text ≡ refusedAt number (c .line)
+      → After text c (shut s (refusedPlan number (c .line)))
   after-refused {number} z e = after-shut refl (read-refused s number (c .line) z e)
 
   -- Behind the last line
@@ -107,10 +110,16 @@ module _ {text : List ℕ} {c : Cursor} {s : State} (n : Next text (c .at) (c .l
         let d = eqb-false (s .plan .draw) 8 q in
         let x = r .axes (λ w. d (r .memory w .0)) d in
         let h = x .holds in
-        let whole : readingOf text ≡ accepted (s .plan .words) (s .plan .draw) (x .axes) = x .ahead ∙ rw rest (axes-end _ _ (x .axes) _ (omega (arith, length-drop (c .at) text, ltb-false (c .at) (length text) none))) in
+        let whole : readingOf text ≡ accepted (s .plan .words) (s .plan .draw) (x .axes) =
+        x .ahead ∙ rw rest (axes-end _ _ (x .axes) _ (omega (arith, length-drop (c .at) text, ltb-false (c .at) (length text) none))) in
         record {
           plan-is = rw whole (rw (← h .axes-is, ← h .points-is) (r .accepted));
-          starts-at = λ z. record { few = omega (arith, h .axes-is, h .sound .few); size = h .places; axes-are = ap (λ (w : Reading). w .axes) whole ∙ h .starts-are };
+          starts-at = λ z.
+              record {
+                few = omega (arith, h .axes-is, h .sound .few);
+                size = h .places;
+                axes-are = ap (λ (w : Reading). w .axes) whole ∙ h .starts-are;
+              };
         }
 
     pub after-end : After text c (afterEnd s (ltb (c .at) (length text)) (c .line))

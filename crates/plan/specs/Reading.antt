@@ -1,4 +1,5 @@
--- The reading of a plan's text (the scope, "Plans and images"): the first bad line decides. Assumes nothing.
+-- The reading of a plan's text (the scope, "Plans and images"): the first bad line decides. Assumes
+-- nothing.
 use mathlib.Core.Bool.{Bool, true, cond}
 use mathlib.Core.List.{List, [], _∷_, _++_}
 use Prim.Native.Nat.{ℕ, suc}
@@ -25,9 +26,12 @@ skipped (c ∷ cs) = eqb c hash
 unfoldable pub kept : ℕ → List (List ℕ) → List Line
 kept n [] = []
 kept n (rest ∷ []) = record { number = n; bytes = rest } ∷ []
-kept n (l ∷ m ∷ ls) = cond (skipped l) (kept (suc n) (m ∷ ls)) (record { number = n; bytes = l } ∷ kept (suc n) (m ∷ ls))
+kept n (l ∷ m ∷ ls) =
+    cond (skipped l) (kept (suc n) (m ∷ ls))
+    (record { number = n; bytes = l } ∷ kept (suc n) (m ∷ ls))
 
--- what is read: 0, or the refusal and its line; the memory's words; the drawing's number; the axes. A refused plan has none of these.
+-- what is read: 0, or the refusal and its line; the memory's words; the drawing's number; the axes.
+-- A refused plan has none of these.
 pub record Reading : Type 0 where
   pub answer : ℕ
   pub line : ℕ
@@ -41,16 +45,19 @@ accepted words draw axes = record { answer = 0; line = 0; words = words; draw = 
 abbrev pub refusedAt : ℕ → ℕ → Reading
 refusedAt number line = record { answer = number; line = line; words = 0; draw = 0; axes = [] }
 
--- then axis lines, to the end; what follows the last byte 10 is a line that is not ended, where it is anything
+-- then axis lines, to the end; what follows the last byte 10 is a line that is not ended, where it
+-- is anything
 unfoldable pub axisLines : ℕ → ℕ → List Axis → List Line → Reading
 axisLines words draw axes [] = accepted words draw axes
-axisLines words draw axes (rest ∷ []) = cond (eqb (length (rest .bytes)) 0) (accepted words draw axes) (refusedAt 20 (rest .number))
+axisLines words draw axes (rest ∷ []) =
+    cond (eqb (length (rest .bytes)) 0) (accepted words draw axes) (refusedAt 20 (rest .number))
 axisLines words draw axes (l ∷ m ∷ ls) =
     cond (eqb (axisRefusal axes (fieldsOf (l .bytes))) 0)
     (axisLines words draw (axes ++ (axisOf (fieldsOf (l .bytes)) ∷ [])) (m ∷ ls))
     (refusedAt (axisRefusal axes (fieldsOf (l .bytes))) (l .number))
 
--- then the draw line; a missing one is 20 at the line after the last one, and one that is not ended 20 at its own: the same number
+-- then the draw line; a missing one is 20 at the line after the last one, and one that is not ended
+-- 20 at its own: the same number
 unfoldable pub drawLine : ℕ → List Line → Reading
 drawLine words [] = refusedAt 20 1
 drawLine words (rest ∷ []) = refusedAt 20 (rest .number)
@@ -73,4 +80,5 @@ abbrev pub textLimit : ℕ
 textLimit = 65536
 
 unfoldable pub reading : List ℕ → Reading
-reading text = cond (ltb textLimit (length text)) (refusedAt 20 1) (memoryLine (kept 1 (linesOf text)))
+reading text =
+    cond (ltb textLimit (length text)) (refusedAt 20 1) (memoryLine (kept 1 (linesOf text)))

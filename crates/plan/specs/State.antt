@@ -8,11 +8,11 @@ use lib.ListN.{length, getD, set, take, replicate}
 use Rattle.lists.specs.Search.{any}
 use Rattle.names.specs.Names.{nameCount}
 use Rattle.names.specs.Drawings.{drawingCount}
-use Rattle.points.specs.Axes.{Axis, count}
+use Rattle.points.specs.Axes.{Axis, axisLength, mostAxes, count}
 use Rattle.points.specs.OneToOne.{Sound}
 use Rattle.text.specs.Text.{fieldsOf}
 use Rattle.line.specs.Line.{nameOf}
-use Rattle.axis.specs.Axis.{valuesOf, axisOf, refusal}
+use Rattle.axis.specs.Axis.{axisOf, refusal}
 use Rattle.plan.specs.declared.Plan.{Plan}
 use Rattle.plan.specs.declared.Cursor.{Cursor}
 use Rattle.plan.specs.declared.State.{State}
@@ -23,7 +23,13 @@ use Rattle.plan.specs.Cursor.{lineAt, linesFrom, readingOf}
 -- Before the first line; with another plan, and a line wanted or not
 
 abbrev pub nothingRead : State
-nothingRead = record { wanted = true; plan = acceptedPlan 0 drawingCount 0 1; seen = replicate nameCount false; starts = replicate 8 0 }
+nothingRead =
+    record {
+      wanted = true;
+      plan = acceptedPlan 0 drawingCount 0 1;
+      seen = replicate nameCount false;
+      starts = replicate mostAxes 0;
+    }
 
 abbrev pub going : State → Plan → State
 going s plan = record { wanted = true; plan = plan; seen = s .seen; starts = s .starts }
@@ -34,13 +40,18 @@ shut s plan = record { wanted = false; plan = plan; seen = s .seen; starts = s .
 -- A memory line of these words, a draw line of this drawing, and the end of the text
 
 abbrev pub afterMemory : State → ℕ → ℕ → State
-afterMemory s words line = cond (eqb words 0) (shut s (refusedPlan 20 line)) (going s (acceptedPlan words drawingCount 0 1))
+afterMemory s words line =
+    cond (eqb words 0) (shut s (refusedPlan 20 line)) (going s (acceptedPlan words drawingCount 0 1))
 
 abbrev pub afterDraw : State → ℕ → ℕ → State
-afterDraw s draw line = cond (ltb draw drawingCount) (going s (acceptedPlan (s .plan .words) draw 0 1)) (shut s (refusedPlan 20 line))
+afterDraw s draw line =
+    cond (ltb draw drawingCount)
+    (going s (acceptedPlan (s .plan .words) draw 0 1))
+    (shut s (refusedPlan 20 line))
 
 abbrev pub afterEnd : State → Bool → ℕ → State
-afterEnd s left line = cond (left || eqb (s .plan .draw) drawingCount) (shut s (refusedPlan 20 line)) (shut s (s .plan))
+afterEnd s left line =
+    cond (left || eqb (s .plan .draw) drawingCount) (shut s (refusedPlan 20 line)) (shut s (s .plan))
 
 -- An axis line of these fields: its refusal, or an axis more, whose line starts at a place
 
@@ -51,7 +62,8 @@ abbrev pub heldAfter : State → ℕ → ℕ → ℕ → State
 heldAfter s name n at =
     record {
       wanted = true;
-      plan = acceptedPlan (s .plan .words) (s .plan .draw) (s .plan .axes + 1) (s .plan .points * n);
+      plan = acceptedPlan (s .plan .words) (s .plan .draw) (s .plan .axes + 1)
+          (s .plan .points * n);
       seen = set (s .seen) name true;
       starts = set (s .starts) (s .plan .axes) at;
     }
@@ -59,12 +71,8 @@ heldAfter s name n at =
 abbrev pub afterAxis : State → List (List ℕ) → Cursor → State
 afterAxis s fields c =
     cond (eqb (heldRefusal s fields) 0)
-    (heldAfter s (nameOf fields) (length (valuesOf fields)) (c .at))
+    (heldAfter s (nameOf fields) (axisLength (axisOf fields)) (c .at))
     (shut s (refusedPlan (heldRefusal s fields) (c .line)))
-
--- What is stored of an axis: the name, the length and the values
-abbrev pub entryOf : List (List ℕ) → List ℕ
-entryOf fields = nameOf fields ∷ length (valuesOf fields) ∷ valuesOf fields
 
 -- The axes whose lines start at the first of some places
 abbrev pub axesFrom : List ℕ → List ℕ → ℕ → List Axis
@@ -72,8 +80,8 @@ axesFrom text starts n = map (λ at. axisOf (fieldsOf (lineAt text at))) (take n
 
 -- These are the axes of a plan
 pub record StartsAt (text : List ℕ) (starts : List ℕ) (n : ℕ) : Type 0 where
-  pub few : n ≤ 8
-  pub size : length starts ≡ 8
+  pub few : n ≤ mostAxes
+  pub size : length starts ≡ mostAxes
   pub axes-are : readingOf text .axes ≡ axesFrom text starts n
 
 -- What is held is that of some axes
@@ -83,7 +91,7 @@ pub record Holds (text : List ℕ) (axes : List Axis) (s : State) : Type 0 where
   pub seen-is : (name : ℕ) → getD (s .seen) name false ≡ any (λ (a : Axis). eqb (a .name) name) axes
   pub axes-is : s .plan .axes ≡ length axes
   pub points-is : s .plan .points ≡ count axes
-  pub places : length (s .starts) ≡ 8
+  pub places : length (s .starts) ≡ mostAxes
   pub starts-are : axes ≡ axesFrom text (s .starts) (s .plan .axes)
 
 -- Some axis lines are read
@@ -92,15 +100,20 @@ pub record AxesRead (text : List ℕ) (s : State) (lines : List Line) : Type 0 w
   pub holds : Holds text axes s
   pub ahead : readingOf text ≡ axisLines (s .plan .words) (s .plan .draw) axes lines
 
--- The lines before a place are read, and another one is wanted there: the memory line, the draw line or an axis line
+-- The lines before a place are read, and another one is wanted there: the memory line, the draw
+-- line or an axis line
 pub record Reads (text : List ℕ) (s : State) (at number : ℕ) : Type 0 where
-  pub accepted : s .plan ≡ acceptedPlan (s .plan .words) (s .plan .draw) (s .plan .axes) (s .plan .points)
-  pub memory : s .plan .words ≡ 0 → (s .plan .draw ≡ drawingCount) × (readingOf text ≡ memoryLine (linesFrom text at number))
-  pub draw : (s .plan .words ≡ 0 → ⊥) → s .plan .draw ≡ drawingCount → readingOf text ≡ drawLine (s .plan .words) (linesFrom text at number)
+  pub accepted : let p = s .plan in p ≡ acceptedPlan (p .words) (p .draw) (p .axes) (p .points)
+  pub memory : s .plan .words ≡ 0
+      → (s .plan .draw ≡ drawingCount) × (readingOf text ≡ memoryLine (linesFrom text at number))
+  pub draw : (s .plan .words ≡ 0 → ⊥) → s .plan .draw ≡ drawingCount
+      → readingOf text ≡ drawLine (s .plan .words) (linesFrom text at number)
   pub none : s .plan .draw ≡ drawingCount → Holds text [] s
-  pub axes : (s .plan .words ≡ 0 → ⊥) → (s .plan .draw ≡ drawingCount → ⊥) → AxesRead text s (linesFrom text at number)
+  pub axes : (s .plan .words ≡ 0 → ⊥) → (s .plan .draw ≡ drawingCount → ⊥)
+      → AxesRead text s (linesFrom text at number)
 
--- All lines that decide are read: the plan of the text, and of an accepted one where its axis lines start
+-- All lines that decide are read: the plan of the text, and of an accepted one where its axis lines
+-- start
 pub record Read (text : List ℕ) (s : State) : Type 0 where
   pub plan-is : s .plan ≡ summary (readingOf text)
   pub starts-at : s .plan .answer ≡ 0 → StartsAt text (s .starts) (s .plan .axes)

@@ -3,15 +3,26 @@ ghost use mathlib.Core.Path.{_≡_};
 ghost use Prim.Native.Nat.{_+_, _<_, _≤_, _^_};
 ghost use lib.ListN.{length};
 ghost use Rattle.text.specs.Text.{fieldsOf};
-ghost use Rattle.axis.specs.Axis.{storedAt};
-ghost use Rattle.plan.specs.Table.{refusedPlan, acceptedPlan, planOf, stored, tableAfter};
 ghost use Rattle.names.specs.Names.{nameCount};
+ghost use Rattle.points.specs.Axes.{mostAxes, mostValues};
+ghost use Rattle.points.specs.Table.{entryOf};
+ghost use Rattle.axis.specs.Axis.{axisOf, storedAt};
 ghost use Rattle.plan.specs.Reading.{textLimit};
+ghost use Rattle.plan.specs.Table.{room, refusedPlan, acceptedPlan, planOf, stored};
+ghost use Rattle.plan.specs.Table.{tableAfter};
 ghost use Rattle.plan.specs.Cursor.{lineAt, skippedAt, Place, Next, readingOf};
-ghost use Rattle.plan.specs.State.{nothingRead, shut, going, afterMemory, afterDraw, afterAxis, afterEnd, heldAfter, entryOf, StartsAt, Reads, After, Read};
+ghost use Rattle.plan.specs.State.{nothingRead, shut, going};
+ghost use Rattle.plan.specs.State.{afterMemory, afterDraw, afterAxis, afterEnd, heldAfter};
+ghost use Rattle.plan.specs.State.{StartsAt, Reads, After, Read};
+// A table with room for the axes of every plan has so many numbers.
+pub const ROOM: usize = 528;
 
-// What reading a plan gives: 0 or the refusal, its line, the memory's words, the drawing's number in the scope's order, and how many
-// axes and points there are. A refused plan has only the answer and the line.
+// A plan's text is no longer.
+pub const TEXT: usize = 65536;
+
+// What reading a plan gives: 0 or the refusal, its line, the memory's words, the drawing's number
+// in the scope's order, and how many axes and points there are. A refused plan has only the answer
+// and the line.
 pub struct Plan {
     pub answer: u32,
     pub line: u64,
@@ -21,15 +32,13 @@ pub struct Plan {
     pub points: u64,
 }
 
-// No text of a plan has more bytes.
-pub const TEXT: usize = 65536;
-
-// The plan of a text. The axes of an accepted one are stored at the table's start; a refused one leaves the table as lent. 9 where that
-// has fewer than 528 elements.
+// The plan of a text. The axes of an accepted one are stored at the table's start; a refused one
+// leaves the table as lent. 9 where that has no room.
 pub fn read(text: &[u8], table: &mut [u64]) -> Plan
-    ensures { λ r. ⌜ (r ≡ planOf (now (text .entry)) (length (now (table .entry)))) × (now (table .exit) ≡ tableAfter (now (text .entry)) (now (table .entry))) ⌝ }
+    ensures { λ r. let x = now (text .entry) in let t = now (table .entry) in
+        ⌜ (r ≡ planOf x (length t)) × (now (table .exit) ≡ tableAfter x t) ⌝ }
 {
-    if table.len() < 528 {
+    if table.len() < ROOM {
         return refused(9, 0);
     }
     if TEXT < text.len() {
@@ -59,8 +68,9 @@ struct Reader<'a> {
     line: u64,
 }
 
-// What is held of the lines read so far: is another one wanted, the plan up to here, which names came, and where each axis line starts.
-// Before the memory line the plan has no words, before the draw line DRAWING_COUNT for the drawing.
+// What is held of the lines read so far: is another one wanted, the plan up to here, which names
+// came, and where each axis line starts. Before the memory line the plan has no words, before the
+// draw line DRAWING_COUNT for the drawing.
 struct State {
     wanted: bool,
     plan: Plan,
@@ -68,7 +78,8 @@ struct State {
     starts: [usize; 8],
 }
 
-// The first pass: one reader is carried through its text, and each line that is not skipped is taken in.
+// The first pass: one reader is carried through its text, and each line that is not skipped is
+// taken in.
 fn read_lines(text: &[u8]) -> State
     requires { ⌜ length (now text) ≤ textLimit ⌝ }
     ensures { λ s. ⌜ Read (now (text .entry)) s ⌝ }
@@ -105,7 +116,8 @@ fn next<'a>(r: Reader<'a>) -> Cursor
 // The reader behind a line.
 fn behind<'a>(r: Reader<'a>, c: Cursor) -> Reader<'a>
     requires { ⌜ (c .end + 1 < 2 ^ 64) × (c .line + 1 < 2 ^ 64) ⌝ }
-    ensures { λ q. ⌜ (q .text ≡ r .entry .text) × ((q .at ≡ c .end + 1) × (q .line ≡ c .line + 1)) ⌝ }
+    ensures { λ q. ⌜ (q .text ≡ r .entry .text)
+        × ((q .at ≡ c .end + 1) × (q .line ≡ c .line + 1)) ⌝ }
 {
     Reader {
         text: r.text,
@@ -144,10 +156,12 @@ fn is_skipped(text: &[u8], at: usize, end: usize) -> bool
     text[at] == ascii::HASH
 }
 
-// The second pass, over an accepted plan: the axes whose lines start at these places are stored at the table's start.
+// The second pass, over an accepted plan: the axes whose lines start at these places are stored at
+// the table's start.
 fn store_axes(text: &[u8], table: &mut [u64], starts: [usize; 8], axes: u64)
-    requires { ⌜ (528 ≤ length (now table)) × StartsAt (now text) starts axes ⌝ }
-    ensures { λ _. ⌜ now (table .exit) ≡ stored (readingOf (now (text .entry)) .axes) (now (table .entry)) ⌝ }
+    requires { ⌜ (room ≤ length (now table)) × StartsAt (now text) starts axes ⌝ }
+    ensures { λ _. ⌜ now (table .exit)
+        ≡ stored (readingOf (now (text .entry)) .axes) (now (table .entry)) ⌝ }
 {
     let mut used = 0;
     let mut k: u64 = 0;
@@ -158,11 +172,14 @@ fn store_axes(text: &[u8], table: &mut [u64], starts: [usize; 8], axes: u64)
     }
 }
 
-// Stores an axis from an index on: its name, its length and its values. Hands back the index behind it.
+// Stores an axis from an index on: its name, its length and its values. Hands back the index behind
+// it.
 fn store_axis(line: &[u8], table: &mut [u64], at: usize) -> usize
-    requires { ⌜ at + length (entryOf (fieldsOf (now line))) ≤ length (now table) ⌝ }
-    ensures after { λ r. ⌜ r ≡ at + length (entryOf (fieldsOf (now (line .entry)))) ⌝ }
-    ensures entered { λ r. ⌜ now (table .exit) ≡ storedAt at (entryOf (fieldsOf (now (line .entry)))) (now (table .entry)) ⌝ }
+    requires { ⌜ at + length (entryOf (axisOf (fieldsOf (now line)))) ≤ length (now table) ⌝ }
+    ensures after { λ r. let entry = entryOf (axisOf (fieldsOf (now (line .entry)))) in
+        ⌜ r ≡ at + length entry ⌝ }
+    ensures entered { λ r. let entry = entryOf (axisOf (fieldsOf (now (line .entry)))) in
+        ⌜ now (table .exit) ≡ storedAt at entry (now (table .entry)) ⌝ }
 {
     table[at] = line::name_of(line);
     let count = axis::store_values(line, table, at + 2);
@@ -185,7 +202,9 @@ fn nothing_read() -> State
 
 // The next line that is not skipped, or what follows the last line, is taken in.
 fn taken(text: &[u8], c: Cursor, s: State) -> State
-    requires { ⌜ (length (now text) ≤ textLimit) × (Next (now text) (c .at) (c .line) c) × Reads (now text) s (c .at) (c .line) ⌝ }
+    requires { ⌜ (length (now text) ≤ textLimit)
+        × (Next (now text) (c .at) (c .line) c)
+        × Reads (now text) s (c .at) (c .line) ⌝ }
     ensures { λ r. ⌜ After (now (text .entry)) c r ⌝ }
 {
     let at = c.at;
@@ -228,7 +247,7 @@ fn with_draw(s: State, draw: u64, line: u64) -> State
 
 // An axis line: its refusal, or an axis more.
 fn with_axis(s: State, line: &[u8], c: Cursor) -> State
-    requires { ⌜ s .plan .points ≤ 64 ^ s .plan .axes ⌝ }
+    requires { ⌜ s .plan .points ≤ mostValues ^ s .plan .axes ⌝ }
     ensures { λ r. ⌜ r ≡ afterAxis s (fieldsOf (now (line .entry))) c ⌝ }
 {
     let plan = s.plan;
@@ -242,7 +261,10 @@ fn with_axis(s: State, line: &[u8], c: Cursor) -> State
 
 // With an axis more, of a name and so many values, whose line starts at a place.
 fn with_values(s: State, name: u64, count: u64, at: usize) -> State
-    requires { ⌜ (name < nameCount) × (count ≤ 64) × (s .plan .axes < 8) × (s .plan .points ≤ 64 ^ s .plan .axes) ⌝ }
+    requires { ⌜ (name < nameCount)
+        × (count ≤ mostValues)
+        × (s .plan .axes < mostAxes)
+        × (s .plan .points ≤ mostValues ^ s .plan .axes) ⌝ }
     ensures { λ r. ⌜ r ≡ heldAfter s name count at ⌝ }
 {
     let mut seen = s.seen;
@@ -259,7 +281,8 @@ fn with_values(s: State, name: u64, count: u64, at: usize) -> State
     }
 }
 
-// Behind the last line: 20 where something is left, or where the memory line or the draw line is missing.
+// Behind the last line: 20 where something is left, or where the memory line or the draw line is
+// missing.
 fn at_end(s: State, left: bool, line: u64) -> State
     ensures { λ r. ⌜ r ≡ afterEnd s left line ⌝ }
 {

@@ -11,7 +11,7 @@ use lib.Seq.{set-append-left}
 use Rattle.lists.specs.Search.{any}
 use Rattle.lists.proofs.TestLaws.{or-eq-false}
 use Rattle.names.specs.Names.{defaults}
-use Rattle.points.specs.Axes.{Axis, count}
+use Rattle.points.specs.Axes.{Axis, valueAt, mostAxes, count}
 use Rattle.points.specs.Points.{indices, assigned, experiment, refusal}
 use Rattle.points.specs.Table.{axesIn, laterIn, holds, pointsIn, refusalIn, answerFor, outAfter, withDefaults}
 use Rattle.points.specs.OneToOne.{unknown, tooLarge}
@@ -23,15 +23,15 @@ pub record Holding (k : ℕ) (t : List ℕ) : Type 0 where
   pub counted : pointsIn k t ≡ count (axesIn k t)
 
 pub holding : (k n : ℕ) (t : List ℕ) → n < pointsIn k t → Holding k t
-holding k n t h = go (leb k 8 && holds k t) refl h
+holding k n t h = go (leb k mostAxes && holds k t) refl h
   where
-    go : (b : Bool) → (leb k 8 && holds k t) ≡ b → n < cond b (count (axesIn k t)) 0 → Holding k t
-    go true e h = record { held = and-eq-true-iff (leb k 8) (holds k t) .0 e .1; counted = rw e }
+    go : (b : Bool) → (leb k mostAxes && holds k t) ≡ b → n < cond b (count (axesIn k t)) 0 → Holding k t
+    go true e h = record { held = and-eq-true-iff (leb k mostAxes) (holds k t) .0 e .1; counted = rw e }
     go false e h = absurd (omega arith)
 
 -- the test of 24 is that of the count of points
 refusalIn-test : (k n : ℕ) (t : List ℕ) → refusalIn k t n ≡ cond (ltb n (pointsIn k t)) 0 24
-refusalIn-test k n t = go (leb k 8 && holds k t)
+refusalIn-test k n t = go (leb k mostAxes && holds k t)
   where
     go : (b : Bool) → cond b (refusal (axesIn k t) n) 24 ≡ cond (ltb n (cond b (count (axesIn k t)) 0)) 0 24
     go true = refl
@@ -45,8 +45,8 @@ assigned-append [] is vs rest u e = refl
 assigned-append (a ∷ later) [] vs rest u e = refl
 assigned-append (a ∷ later) (i ∷ is) vs rest u e =
     let p = or-eq-false (unknown a) _ u in
-    rw (set-append-left vs rest (a .name) (getD (a .values) i 0) (omega (arith, leb-false 14 (a .name) (p .0), e)))
-    (assigned-append later is (set vs (a .name) (getD (a .values) i 0)) rest (p .1) (length-set vs _ _ ∙ e))
+    rw (set-append-left vs rest (a .name) (valueAt a i) (omega (arith, leb-false 14 (a .name) (p .0), e)))
+    (assigned-append later is (set vs (a .name) (valueAt a i)) rest (p .1) (length-set vs _ _ ∙ e))
 
 unknown-axesIn : (k : ℕ) (t : List ℕ) → holds k t ≡ true → any unknown (axesIn k t) ≡ false
 unfolding any holds axesIn

@@ -13,9 +13,10 @@ use Rattle.lists.proofs.TestLaws.{or-eq-false}
 use Rattle.lists.proofs.SearchLaws.{any-getD}
 use Rattle.names.specs.Names.{defaults, limit}
 use Rattle.names.proofs.NamesLaws.{limit-pos, default-lt-limit}
-use Rattle.points.specs.Axes.{Axis}
+use Rattle.points.specs.Axes.{Axis, valueAt, axisValues}
 use Rattle.points.specs.Points.{indices, assigned, experiment}
 use Rattle.points.specs.OneToOne.{isNamed, tooLarge, Sound}
+use Rattle.points.proofs.AxesLaws.{getD-axisValues}
 use Rattle.points.proofs.SoundLaws.{First, first-sound, later-sound}
 
 -- What the assignments leave
@@ -27,7 +28,8 @@ length-assigned (a ∷ later) [] vs = refl
 length-assigned (a ∷ later) (i ∷ is) vs = length-assigned later is (set vs _ _) ∙ length-set vs _ _
 
 -- a name of no axis keeps its value
-pub assigned-other : (axes : List Axis) (is vs : List ℕ) (i : ℕ) → any (isNamed i) axes ≡ false → getD (assigned axes is vs) i 0 ≡ getD vs i 0
+pub assigned-other : (axes : List Axis) (is vs : List ℕ) (i : ℕ) → any (isNamed i) axes ≡ false
+    → getD (assigned axes is vs) i 0 ≡ getD vs i 0
 unfolding any assigned
 assigned-other [] is vs i e = refl
 assigned-other (a ∷ later) [] vs i e = refl
@@ -54,14 +56,15 @@ experiment-other axes n i e = assigned-other axes (indices axes n) defaults i e
 
 -- an axis's name has the axis's value at its index
 assigned-named : (axes : List Axis) (n : ℕ) (vs : List ℕ) → Sound axes → length vs ≡ 14 → (d : Axis) (j : ℕ) → j < length axes
-    → getD (assigned axes (indices axes n) vs) (getD axes j d .name) 0 ≡ getD (getD axes j d .values) (getD (indices axes n) j 0) 0
+    → getD (assigned axes (indices axes n) vs) (getD axes j d .name) 0 ≡ valueAt (getD axes j d) (getD (indices axes n) j 0)
 unfolding indices assigned
 assigned-named [] n vs s e d j h = absurd (omega arith)
 assigned-named (a ∷ later) n vs s e d zero h = assigned-first a later _ vs _ (first-sound a later s) e
-assigned-named (a ∷ later) n vs s e d (suc j) h = assigned-named later _ (set vs _ _) (later-sound a later s) (length-set vs _ _ ∙ e) d j (omega arith)
+assigned-named (a ∷ later) n vs s e d (suc j) h =
+    assigned-named later _ (set vs _ _) (later-sound a later s) (length-set vs _ _ ∙ e) d j (omega arith)
 
 pub experiment-named : (axes : List Axis) (n : ℕ) → Sound axes → (d : Axis) (j : ℕ) → j < length axes
-    → getD (experiment axes n) (getD axes j d .name) 0 ≡ getD (getD axes j d .values) (getD (indices axes n) j 0) 0
+    → getD (experiment axes n) (getD axes j d .name) 0 ≡ valueAt (getD axes j d) (getD (indices axes n) j 0)
 unfolding experiment
 experiment-named axes n s d j h = assigned-named axes n defaults s refl d j h
 
@@ -75,9 +78,11 @@ set-each P (x ∷ vs) zero v h f (suc k) = f (suc k)
 set-each P (x ∷ vs) (suc i) v h f zero = f zero
 set-each P (x ∷ vs) (suc i) v h f (suc k) = set-each (λ j. P (suc j)) vs i v h (λ j. f (suc j)) k
 
-value-lt-limit : (a : Axis) (i : ℕ) → tooLarge a ≡ false → getD (a .values) i 0 < limit (a .name)
+value-lt-limit : (a : Axis) (i : ℕ) → tooLarge a ≡ false → valueAt a i < limit (a .name)
 value-lt-limit a i e =
-    leb-false (limit (a .name)) _ (any-getD (leb (limit (a .name))) 0 (a .values) i (lt-leb (limit (a .name)) 0 (limit-pos (a .name))) e)
+    let zero-fits = lt-leb (limit (a .name)) 0 (limit-pos (a .name)) in
+    rw (← getD-axisValues a i)
+    (leb-false (limit (a .name)) _ (any-getD (leb (limit (a .name))) 0 (axisValues a) i zero-fits e))
 
 assigned-lt-limit : (axes : List Axis) (is vs : List ℕ) → any tooLarge axes ≡ false → ((i : ℕ) → getD vs i 0 < limit i)
     → (i : ℕ) → getD (assigned axes is vs) i 0 < limit i
@@ -86,7 +91,7 @@ assigned-lt-limit [] is vs e f = f
 assigned-lt-limit (a ∷ later) [] vs e f = f
 assigned-lt-limit (a ∷ later) (j ∷ is) vs e f =
     let p = or-eq-false (tooLarge a) _ e in
-    assigned-lt-limit later is (set vs (a .name) (getD (a .values) j 0)) (p .1)
+    assigned-lt-limit later is (set vs (a .name) (valueAt a j)) (p .1)
     (set-each (λ (k v : ℕ). v < limit k) vs (a .name) _ (value-lt-limit a j (p .0)) f)
 
 pub experiment-lt-limit : (axes : List Axis) (n i : ℕ) → any tooLarge axes ≡ false → getD (experiment axes n) i 0 < limit i

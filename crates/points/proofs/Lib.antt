@@ -1,3 +1,4 @@
+pub mod AxesLaws
 pub mod PointsLaws
 pub mod SoundLaws
 pub mod ExperimentLaws

@@ -1,5 +1,5 @@
--- Values joined bit by bit against a name's limit (`Rattle.names.specs.Names`), and the greatest value. No contract cites this file.
--- Assumes nothing.
+-- Values joined bit by bit against a name's limit (`Rattle.names.specs.Names`), and the greatest
+-- value. No contract cites this file. Assumes nothing.
 use mathlib.Core.Path.{_≡_, refl, sym, _∙_}
 use mathlib.Core.Bool.{Bool, true, false, _||_}
 use mathlib.Core.List.{List}
@@ -38,7 +38,8 @@ pub joined-start : (name : ℕ) (vs : List ℕ) → Joined name vs 0 0
 unfolding any
 joined-start name vs = lt-leb (limit name) 0 (limit-pos name)
 
-pub joined-next : (name : ℕ) (vs : List ℕ) (all i : ℕ) → i < length vs → Joined name vs all i → Joined name vs (bitOr all (getD vs i 0)) (i + 1)
+pub joined-next : (name : ℕ) (vs : List ℕ) (all i : ℕ) → i < length vs → Joined name vs all i
+    → Joined name vs (bitOr all (getD vs i 0)) (i + 1)
 joined-next name vs all i h e =
     leb-or-limit name all (getD vs i 0)
     ∙ rw (e, add-one i, take-suc vs i 0 h) (sym (any-snoc (leb (limit name)) (getD vs i 0) (take i vs)))

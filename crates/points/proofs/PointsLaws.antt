@@ -5,27 +5,26 @@ use mathlib.Core.List.{List, [], _∷_}
 use Prim.Native.Nat.{ℕ, _+_, _*_, _/_, _%_, _^_, _<_, _≤_}
 use native.Mathlib.Nat.{div-add-mod', mod-lt, mul-pos, mul-le-mul, div-lt-iff-lt-mul, pow-succ', pow-le-pow-right}
 use native.Mathlib.Omega.{arith}
-use borrow.Author.Tests.{ltb-false}
 use lib.Arith.{digits-lt, digits-div, digits-mod}
-use lib.Dec.{ltb, eqb}
 use lib.ListN.{length}
 use Rattle.lists.specs.Search.{any}
 use Rattle.lists.proofs.TestLaws.{or-eq-false}
-use Rattle.points.specs.Axes.{Axis, count}
+use Rattle.points.specs.Axes.{Axis, axisLength, mostAxes, mostValues, count}
 use Rattle.points.specs.Points.{indices}
 use Rattle.points.specs.OneToOne.{badLength}
+use Rattle.points.proofs.AxesLaws.{good-length}
 
 -- each axis has a value
 abbrev pub Filled : List Axis → Type 0
 Filled [] = Unit {0}
-Filled (a ∷ later) = (0 < length (a .values)) × Filled later
+Filled (a ∷ later) = (0 < axisLength a) × Filled later
 
 -- an index for each axis, below its length
 abbrev pub InRange : List Axis → List ℕ → Type 0
 InRange [] [] = Unit {0}
 InRange [] (i ∷ is) = ⊥
 InRange (a ∷ later) [] = ⊥
-InRange (a ∷ later) (i ∷ is) = (i < length (a .values)) × InRange later is
+InRange (a ∷ later) (i ∷ is) = (i < axisLength a) × InRange later is
 
 -- the number of a point, from its indices
 unfoldable pub numberOf : List Axis → List ℕ → ℕ
@@ -38,17 +37,15 @@ unfolding count
 count-pos [] f = omega arith
 count-pos (a ∷ later) f = mul-pos (f .0) (count-pos later (f .1))
 
--- axes of at most 64 values each
-pub count-le : (axes : List Axis) → any badLength axes ≡ false → count axes ≤ 64 ^ length axes
+pub count-le : (axes : List Axis) → any badLength axes ≡ false → count axes ≤ mostValues ^ length axes
 unfolding any count
 count-le [] e = omega arith
 count-le (a ∷ later) e =
     let p = or-eq-false (badLength a) _ e in
-    let few = ltb-false 64 (length (a .values)) (or-eq-false (eqb (length (a .values)) 0) (ltb 64 (length (a .values))) (p .0) .1) in
-    rw (pow-succ' 64 (length later)) (mul-le-mul few (count-le later (p .1)))
+    rw (pow-succ' mostValues (length later)) (mul-le-mul (good-length a (p .0) .1) (count-le later (p .1)))
 
-pub count-le-eight : (axes : List Axis) → length axes ≤ 8 → any badLength axes ≡ false → count axes ≤ 64 ^ 8
-count-le-eight axes h e = omega (arith, count-le axes e, pow-le-pow-right {n = 64} (omega arith) {i = length axes} {j = 8} h)
+pub count-le-eight : (axes : List Axis) → length axes ≤ mostAxes → any badLength axes ≡ false → count axes ≤ mostValues ^ mostAxes
+count-le-eight axes h e = omega (arith, count-le axes e, pow-le-pow-right {n = mostValues} (omega arith) {i = length axes} {j = mostAxes} h)
 
 pub indices-inRange : (axes : List Axis) → Filled axes → (n : ℕ) → n < count axes → InRange axes (indices axes n)
 unfolding count indices

@@ -4,13 +4,13 @@ use mathlib.Core.Bool.{false}
 use mathlib.Core.List.{List, [], _∷_}
 use Prim.Native.Nat.{_<_}
 use native.Mathlib.Omega.{arith}
-use borrow.Author.Tests.{leb-false, eqb-false}
-use lib.Dec.{ltb, eqb}
-use lib.ListN.{length}
+use borrow.Author.Tests.{leb-false}
+use lib.Dec.{eqb}
 use Rattle.lists.specs.Search.{any, anyPair}
 use Rattle.lists.proofs.TestLaws.{or-eq-false}
-use Rattle.points.specs.Axes.{Axis}
+use Rattle.points.specs.Axes.{Axis, axisLength, axisValues}
 use Rattle.points.specs.OneToOne.{isNamed, sameName, unknown, badLength, tooLarge, repeats, Sound}
+use Rattle.points.proofs.AxesLaws.{good-length}
 use Rattle.points.proofs.PointsLaws.{Filled}
 
 -- An accepted plan's first axis, and the others
@@ -18,17 +18,16 @@ use Rattle.points.proofs.PointsLaws.{Filled}
 pub record First (a : Axis) (later : List Axis) : Type 0 where
   pub known : a .name < 14
   pub distinct : any (isNamed (a .name)) later ≡ false
-  pub filled : 0 < length (a .values)
-  pub once : anyPair eqb (a .values) ≡ false
+  pub filled : 0 < axisLength a
+  pub once : anyPair eqb (axisValues a) ≡ false
 
 pub first-sound : (a : Axis) (later : List Axis) → Sound (a ∷ later) → First a later
 unfolding any anyPair
 first-sound a later s =
-    let l = or-eq-false (eqb (length (a .values)) 0) (ltb 64 (length (a .values))) (or-eq-false (badLength a) _ (s .lengths) .0) in
     record {
       known = leb-false 14 (a .name) (or-eq-false (unknown a) _ (s .known) .0);
       distinct = or-eq-false (any (sameName a) later) _ (s .distinct) .0;
-      filled = omega (arith, eqb-false (length (a .values)) 0 (l .0));
+      filled = good-length a (or-eq-false (badLength a) _ (s .lengths) .0) .0;
       once = or-eq-false (repeats a) _ (s .unrepeated) .0;
     }
 

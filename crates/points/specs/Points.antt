@@ -3,12 +3,12 @@ use mathlib.Core.Bool.{cond}
 use mathlib.Core.List.{List, [], _∷_}
 use Prim.Native.Nat.{ℕ, _/_, _%_}
 use lib.Dec.{ltb}
-use lib.ListN.{getD, set}
+use lib.ListN.{set}
 use Rattle.names.specs.Names.{defaults}
-use Rattle.points.specs.Axes.{Axis, count}
+use Rattle.points.specs.Axes.{Axis, valueAt, count}
 
--- the first axis is slowest: its index is the point number divided by the product of the later lengths, and the rest of the number is
--- decoded by the same rule over the later axes
+-- the first axis is slowest: its index is the point number divided by the product of the later
+-- lengths, and the rest of the number is decoded by the same rule over the later axes
 unfoldable pub indices : List Axis → ℕ → List ℕ
 indices [] n = []
 indices (a ∷ later) n = n / count later ∷ indices later (n % count later)
@@ -17,7 +17,7 @@ indices (a ∷ later) n = n / count later ∷ indices later (n % count later)
 unfoldable pub assigned : List Axis → List ℕ → List ℕ → List ℕ
 assigned [] is vs = vs
 assigned (a ∷ later) [] vs = vs
-assigned (a ∷ later) (i ∷ is) vs = assigned later is (set vs (a .name) (getD (a .values) i 0))
+assigned (a ∷ later) (i ∷ is) vs = assigned later is (set vs (a .name) (valueAt a i))
 
 -- the fourteen values of point n
 unfoldable pub experiment : List Axis → ℕ → List ℕ

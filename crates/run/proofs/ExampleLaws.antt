@@ -16,7 +16,7 @@ use Rattle.arrays.specs.Array.{part, vAfter, destStart, srcStart, drawingOf}
 use Rattle.refusal.specs.Refusal.{lowest}
 use Rattle.array_refusal.specs.Refusal.{refusalOf, refusal}
 use Rattle.drawing.specs.Draw.{outcomeAt, outcome, drawn}
-use Rattle.points.specs.Axes.{count}
+use Rattle.points.specs.Axes.{axisLength, valueAt, count}
 use Rattle.points.specs.Points.{indices, assigned, experiment}
 use Rattle.listing.specs.Listing.{digits, numbersLine}
 use Rattle.run.specs.Run.{ranOver, pointLine}
@@ -24,5 +24,8 @@ use Rattle.run.specs.Lines.{pointLines}
 use Rattle.run.specs.Example.{Example}
 
 pub example : Example
-unfolding bitOf bitAt differing changedBits stepped operations processed pixelOf result pixelAfter withPixel wordAfter plotted xyAddress badXYPitch common clipped addressAt addressOf reaches leavesMemory settingsOf sourceAt drawnAt visits part vAfter vUnder destStart srcStart drawingOf lowest refusalOf refusal outcomeAt outcome drawn count indices assigned experiment digits numbersLine ranOver pointLine pointLines
+unfolding bitOf bitAt differing changedBits stepped operations processed pixelOf result pixelAfter withPixel wordAfter plotted xyAddress
+    badXYPitch common clipped addressAt addressOf reaches leavesMemory settingsOf sourceAt drawnAt visits part vAfter vUnder destStart srcStart
+    drawingOf lowest refusalOf refusal outcomeAt outcome drawn axisLength valueAt count indices assigned experiment digits numbersLine
+    ranOver pointLine pointLines
 example = refl

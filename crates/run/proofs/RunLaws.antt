@@ -50,7 +50,7 @@ unfolding part
 cols-rows-le op s = go (toXY op) _ (clipped-fits (windowing (s .control)) (rectangleOf s) (windowOf (s .wstart) (s .wend)))
   where
     go : (t : Bool) (c : Clipped) → Fits (rectangleOf s) c
-        → (cond t c (whole·rectangle (rectangleOf s)) .cols ≤ s .dydx % 2 ^ 16) × (cond t c (whole·rectangle (rectangleOf s)) .rows ≤ s .dydx / 2 ^ 16)
+        → let d = cond t c (whole·rectangle (rectangleOf s)) in (d .cols ≤ s .dydx % 2 ^ 16) × (d .rows ≤ s .dydx / 2 ^ 16)
     go true c f = (f .cols, f .rows)
     go false c f = (omega arith, omega arith)
 

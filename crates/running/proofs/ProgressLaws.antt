@@ -45,7 +45,8 @@ module _ (words draw : ℕ) (axes : List Axis) (point : ℕ) (p : Progress) {s :
   pub line-fits : (out : List ℕ) → p .at + longest ≤ length out → p .at + length (lineOf point ran) ≤ length out
   line-fits out h = rw line-is (omega (arith, length-pointLine words draw axes point))
 
-  pub point-run : (out : List ℕ) {m′ out′ : List ℕ} {at : ℕ} → m′ ≡ drawn op s 0 whole m → at ≡ p .at + length (lineOf point ran) → out′ ≡ put (p .at) (lineOf point ran) out
+  pub point-run : (out : List ℕ) {m′ out′ : List ℕ} {at : ℕ} → m′ ≡ drawn op s 0 whole m → at ≡ p .at + length (lineOf point ran)
+      → out′ ≡ put (p .at) (lineOf point ran) out
       → (record { made = true; seed = seed; at = at } ≡ progressed words draw axes point p)
       × ((m ≡ imageFor words (experiment axes point))
       × ((m′ ≡ memoryFor words draw (experiment axes point)) × (out′ ≡ put (p .at) (pointLine words draw axes point) out)))
@@ -86,7 +87,8 @@ module _ (draw : ℕ) (axes : List Axis) (first k : ℕ) (image₀ memory₀ out
         outIs = refl;
       }
 
-  module _ (room : longest * k ≤ length out₀) {p : Progress} {image memory out : List ℕ} {i : ℕ} (below : i < k) (h : RunTo p image memory out i) where
+  module _ (room : longest * k ≤ length out₀) {p : Progress} {image memory out : List ℕ} {i : ℕ} (below : i < k)
+      (h : RunTo p image memory out i) where
     -- there is room for one more line
     pub line-room : p .at + longest ≤ length out
     line-room = omega (arith, h .outSize, h .at, length-pointLines (length image₀) draw axes first i)

@@ -1,4 +1,5 @@
--- What a run of points keeps from one point to the next. The scope knows nothing of it. Assumes nothing.
+-- What a run of points keeps from one point to the next. The scope knows nothing of it. Assumes
+-- nothing.
 use mathlib.Core.Path.{_≡_}
 use mathlib.Core.Bool.{Bool, true}
 use mathlib.Core.List.{List}

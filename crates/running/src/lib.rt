@@ -10,8 +10,10 @@ ghost use Rattle.drawing.specs.Draw.{drawn};
 ghost use Rattle.points.specs.Points.{experiment};
 ghost use Rattle.points.specs.Table.{axesIn, pointsIn};
 ghost use Rattle.listing.specs.Listing.{put};
-ghost use Rattle.run.specs.Run.{seedOf, whole, ranOver, bit, lineOf, imageFor, memoryFor, pointLine};
-ghost use Rattle.run.specs.Lines.{pointLines, longest, afterLast, endsPast, linesOf, written, imageAfter, memoryAfter};
+ghost use Rattle.run.specs.Run.{seedOf, whole, ranOver, bit, lineOf, imageFor, memoryFor};
+ghost use Rattle.run.specs.Run.{pointLine};
+ghost use Rattle.run.specs.Lines.{pointLines, longest, afterLast, endsPast, linesOf, written};
+ghost use Rattle.run.specs.Lines.{imageAfter, memoryAfter};
 ghost use Rattle.running.specs.Progress.{Holds, progressed};
 use operation::Operation;
 use run::Listed;
@@ -43,8 +45,10 @@ fn prepare(memory: &mut [u16], seed: u64, made: bool, held: u64)
 
 // A whole drawing over an image, in a memory of its size.
 fn run_over(image: &[u16], memory: &mut [u16], op: Operation, s: Settings) -> Ran
-    requires { ⌜ (length (now image) ≡ length (now memory)) × (noMemory (length (now image)) ≡ false) ⌝ }
-    ensures { λ r. ⌜ (r ≡ ranOver op s (now (image .entry))) × (now (memory .exit) ≡ drawn op s 0 whole (now (image .entry))) ⌝ }
+    requires { ⌜ (length (now image) ≡ length (now memory))
+        × (noMemory (length (now image)) ≡ false) ⌝ }
+    ensures { λ r. ⌜ (r ≡ ranOver op s (now (image .entry)))
+        × (now (memory .exit) ≡ drawn op s 0 whole (now (image .entry))) ⌝ }
 {
     copy(image, memory);
     let o = drawing::draw(memory, op, s, 0, false, 18446744073709551615);
@@ -65,7 +69,8 @@ struct Experiment {
 
 fn experiment_of(table: &[u64], axes: u64, point: u64) -> Experiment
     requires { ⌜ point < pointsIn axes (now table) ⌝ }
-    ensures { λ r. ⌜ r .settings ≡ settingsOf (experiment (axesIn axes (now (table .entry))) point) ⌝ }
+    ensures { λ r. ⌜ r .settings
+        ≡ settingsOf (experiment (axesIn axes (now (table .entry))) point) ⌝ }
     ensures { λ r. ⌜ r .seed ≡ seedOf (experiment (axesIn axes (now (table .entry))) point) ⌝ }
 {
     let mut values = [0u64; names::COUNT];
@@ -95,7 +100,8 @@ fn put_line(out: &mut [u8], at: usize, point: u64, ran: Ran) -> usize
     put_lines::numbers(out, at, &line)
 }
 
-// What a run has done before a point: whether an image was made, its seed, and the bytes of listing.
+// What a run has done before a point: whether an image was made, its seed, and the bytes of
+// listing.
 struct Progress {
     made: bool,
     seed: u64,
@@ -114,13 +120,22 @@ fn run_point(
     out: &mut [u8],
 ) -> Progress
     requires { ⌜ point < pointsIn axes (now table) ⌝ }
-    requires { ⌜ (noMemory (length (now image)) ≡ false) × (length (now image) ≡ length (now memory)) ⌝ }
+    requires { ⌜ (noMemory (length (now image)) ≡ false)
+        × (length (now image) ≡ length (now memory)) ⌝ }
     requires { ⌜ Holds (p .made) (p .seed) (now image) ⌝ }
     requires { ⌜ p .at + longest ≤ length (now out) ⌝ }
-    ensures { λ r. ⌜ r ≡ progressed (length (now (image .entry))) draw (axesIn axes (now (table .entry))) point p ⌝ }
-    ensures { λ _. ⌜ now (image .exit) ≡ imageFor (length (now (image .entry))) (experiment (axesIn axes (now (table .entry))) point) ⌝ }
-    ensures { λ _. ⌜ now (memory .exit) ≡ memoryFor (length (now (image .entry))) draw (experiment (axesIn axes (now (table .entry))) point) ⌝ }
-    ensures { λ _. ⌜ now (out .exit) ≡ put (p .at) (pointLine (length (now (image .entry))) draw (axesIn axes (now (table .entry))) point) (now (out .entry)) ⌝ }
+    ensures { λ r. let n = length (now (image .entry)) in
+        let held = axesIn axes (now (table .entry)) in
+        ⌜ r ≡ progressed n draw held point p ⌝ }
+    ensures { λ _. let n = length (now (image .entry)) in
+        let held = axesIn axes (now (table .entry)) in
+        ⌜ now (image .exit) ≡ imageFor n (experiment held point) ⌝ }
+    ensures { λ _. let n = length (now (image .entry)) in
+        let held = axesIn axes (now (table .entry)) in
+        ⌜ now (memory .exit) ≡ memoryFor n draw (experiment held point) ⌝ }
+    ensures { λ _. let n = length (now (image .entry)) in
+        let held = axesIn axes (now (table .entry)) in
+        ⌜ now (out .exit) ≡ put (p .at) (pointLine n draw held point) (now (out .entry)) ⌝ }
 {
     let e = experiment_of(table, axes, point);
     prepare(image, e.seed, p.made, p.seed);
@@ -145,13 +160,23 @@ fn run_points(
     memory: &mut [u16],
     out: &mut [u8],
 ) -> usize
-    requires { ⌜ (endsPast (pointsIn axes (now table)) first count ≡ false) × (first + count < 2 ^ 64) ⌝ }
-    requires { ⌜ (noMemory (length (now image)) ≡ false) × (length (now image) ≡ length (now memory)) ⌝ }
+    requires { ⌜ (endsPast (pointsIn axes (now table)) first count ≡ false)
+        × (first + count < 2 ^ 64) ⌝ }
+    requires { ⌜ (noMemory (length (now image)) ≡ false)
+        × (length (now image) ≡ length (now memory)) ⌝ }
     requires { ⌜ longest * count ≤ length (now out) ⌝ }
-    ensures { λ r. ⌜ r ≡ length (pointLines (length (now (image .entry))) draw (axesIn axes (now (table .entry))) first count) ⌝ }
-    ensures { λ _. ⌜ now (image .exit) ≡ afterLast (imageFor (length (now (image .entry)))) (now (image .entry)) (axesIn axes (now (table .entry))) first count ⌝ }
-    ensures { λ _. ⌜ now (memory .exit) ≡ afterLast (memoryFor (length (now (image .entry))) draw) (now (memory .entry)) (axesIn axes (now (table .entry))) first count ⌝ }
-    ensures { λ _. ⌜ now (out .exit) ≡ put 0 (pointLines (length (now (image .entry))) draw (axesIn axes (now (table .entry))) first count) (now (out .entry)) ⌝ }
+    ensures { λ r. let n = length (now (image .entry)) in
+        let held = axesIn axes (now (table .entry)) in
+        ⌜ r ≡ length (pointLines n draw held first count) ⌝ }
+    ensures { λ _. let i = now (image .entry) in let held = axesIn axes (now (table .entry)) in
+        ⌜ now (image .exit) ≡ afterLast (imageFor (length i)) i held first count ⌝ }
+    ensures { λ _. let n = length (now (image .entry)) in
+        let held = axesIn axes (now (table .entry)) in
+        ⌜ now (memory .exit)
+        ≡ afterLast (memoryFor n draw) (now (memory .entry)) held first count ⌝ }
+    ensures { λ _. let n = length (now (image .entry)) in
+        let held = axesIn axes (now (table .entry)) in
+        ⌜ now (out .exit) ≡ put 0 (pointLines n draw held first count) (now (out .entry)) ⌝ }
 {
     let mut p = Progress {
         made: false,
@@ -166,9 +191,11 @@ fn run_points(
     p.at
 }
 
-// Runs `count` points of a plan from `first` on, and puts their listing lines at the start of out; image and memory are left as the last point
-// left them. With 9 (the memories are not of one size up to 32,768 words, the drawing is above 7, or out has no room for lines of LINE bytes), 10
-// (they are empty) and 24 (a point that is asked for is not below the plan's count) nothing changes. With count 0 no point is asked for.
+// Runs `count` points of a plan from `first` on, and puts their listing lines at the start of out;
+// image and memory are left as the last point left them. With 9 (the memories are not of one size
+// up to 32,768 words, the drawing is above 7, or out has no room for lines of LINE bytes), 10 (they
+// are empty) and 24 (a point that is asked for is not below the plan's count) nothing changes. With
+// count 0 no point is asked for.
 pub fn lines(
     table: &[u64],
     axes: u64,
@@ -179,10 +206,19 @@ pub fn lines(
     memory: &mut [u16],
     out: &mut [u8],
 ) -> Listed
-    ensures { λ r. ⌜ r ≡ linesOf (length (now (image .entry))) (length (now (memory .entry))) (length (now (out .entry))) draw axes (now (table .entry)) first count ⌝ }
-    ensures { λ _. ⌜ now (image .exit) ≡ imageAfter (now (image .entry)) (length (now (memory .entry))) (length (now (out .entry))) draw axes (now (table .entry)) first count ⌝ }
-    ensures { λ _. ⌜ now (memory .exit) ≡ memoryAfter (now (memory .entry)) (length (now (image .entry))) (length (now (out .entry))) draw axes (now (table .entry)) first count ⌝ }
-    ensures { λ _. ⌜ now (out .exit) ≡ put 0 (written (length (now (image .entry))) (length (now (memory .entry))) (length (now (out .entry))) draw axes (now (table .entry)) first count) (now (out .entry)) ⌝ }
+    ensures { λ r. let i = now (image .entry) in let m = now (memory .entry) in
+        let o = now (out .entry) in let t = now (table .entry) in
+        ⌜ r ≡ linesOf (length i) (length m) (length o) draw axes t first count ⌝ }
+    ensures { λ _. let i = now (image .entry) in let m = now (memory .entry) in
+        let o = now (out .entry) in let t = now (table .entry) in
+        ⌜ now (image .exit) ≡ imageAfter i (length m) (length o) draw axes t first count ⌝ }
+    ensures { λ _. let i = now (image .entry) in let m = now (memory .entry) in
+        let o = now (out .entry) in let t = now (table .entry) in
+        ⌜ now (memory .exit) ≡ memoryAfter m (length i) (length o) draw axes t first count ⌝ }
+    ensures { λ _. let i = now (image .entry) in let m = now (memory .entry) in
+        let o = now (out .entry) in let t = now (table .entry) in
+        ⌜ now (out .exit)
+        ≡ put 0 (written (length i) (length m) (length o) draw axes t first count) o ⌝ }
 {
     if asked::bad_shape(image.len(), memory.len(), draw, count, out.len()) {
         return Listed {

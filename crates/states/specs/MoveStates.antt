@@ -1,7 +1,7 @@
 -- States of MOVE memory to register (the scope, "Fields"; 000 table 13-1). Assumes nothing.
 use mathlib.Core.Bool.{Bool, cond}
 use Prim.Native.Nat.{ℕ, _+_, _%_}
-use Rattle.field_refusal.specs.Refusal.{badSize}
+use Rattle.field_refusal.specs.Size.{badSize, meant}
 use Rattle.timing.specs.Cycles.{caseOf}
 use Rattle.timing.specs.declared.Case.{Case}
 use Rattle.timing.specs.declared.Case.the-variants.{A, B, C, D, E, F, G}
@@ -44,7 +44,8 @@ signStates signed = cond signed 1 0
 
 -- a state count refuses only 18
 unfoldable pub moveStates : ℕ → ℕ → Mode → Bool → Bool → States
-moveStates a n mode signed cached =
-    cond (badSize n)
+moveStates a size mode signed cached =
+    let base = baseStates (caseOf (a % 16) (meant size)) cached in
+    cond (badSize size)
     (record { answer = 18; states = 0 })
-    (record { answer = 0; states = baseStates (caseOf (a % 16) n) cached + modeStates mode + signStates signed })
+    (record { answer = 0; states = base + modeStates mode + signStates signed })

@@ -1,7 +1,8 @@
 // The machine states of MOVE memory to register. No public function has a requires.
 ghost use mathlib.Core.Path.{_≡_};
 ghost use Prim.Native.Nat.{_≤_};
-ghost use Rattle.states.specs.MoveStates.{cachedStates, uncachedStates, baseStates, modeStates, signStates, moveStates};
+ghost use Rattle.states.specs.MoveStates.{cachedStates, uncachedStates, baseStates};
+ghost use Rattle.states.specs.MoveStates.{modeStates, signStates, moveStates};
 use timing::Case;
 
 // How MOVE names its source.
@@ -17,7 +18,8 @@ pub struct States {
     pub states: u32,
 }
 
-// The machine states of MOVE memory to register. The address is the field's own; cached says that the instruction is in cache.
+// The machine states of MOVE memory to register. The address is the field's own; cached says that
+// the instruction is in cache.
 pub fn move_states(address: u32, size: u32, mode: Mode, signed: bool, cached: bool) -> States
     ensures { λ r. ⌜ r ≡ moveStates address size mode signed cached ⌝ }
 {
@@ -27,7 +29,7 @@ pub fn move_states(address: u32, size: u32, mode: Mode, signed: bool, cached: bo
             states: 0,
         };
     }
-    let case = timing::case_of(address % 16, size);
+    let case = timing::case_of(address % 16, field_refusal::meant(size));
     let base = base_states(case, cached);
     let more = mode_states(mode);
     let sign = sign_states(signed);

@@ -9,7 +9,12 @@ use crate::output;
 use crate::output::End;
 use crate::progress;
 use plan::Plan;
+use plan::ROOM;
+use plan::TEXT;
 use run::LINE;
+
+// A byte more than a plan's text may have.
+const SPACE: usize = TEXT + 1;
 
 // How many points are run between writes.
 const BATCH: usize = 128;
@@ -20,7 +25,7 @@ pub fn swept() -> End {
     if !asked.good {
         return output::error();
     }
-    let mut space = [0u8; plan::TEXT + 1];
+    let mut space = [0u8; SPACE];
     let got = input::plan_text(asked.plan, &mut space);
     if !got.good {
         return output::error();
@@ -31,7 +36,7 @@ pub fn swept() -> End {
 
 // What is wanted of a plan, or its refusal.
 fn listed(asked: Asked, text: &[u8]) -> End {
-    let mut space = [0u64; 528];
+    let mut space = [0u64; ROOM];
     let p = plan::read(text, &mut space);
     if p.answer != 0 {
         return output::refused(asked.first, p.answer as u64, p.line);

@@ -5,7 +5,7 @@ use Rattle.lists.specs.Search.{any, first, anyPair}
 use Rattle.text.specs.Text.{before, parts, same}
 use Rattle.text.specs.Number.{areDigits, decimal, numberOf}
 use Rattle.names.specs.Names.{limit}
-use Rattle.points.specs.Axes.{count}
+use Rattle.points.specs.Axes.{axisLength, valueAt, axisValues, count}
 use Rattle.line.specs.Line.{memoryOf, drawOf, nameOf}
 use Rattle.axis.specs.Axis.{valuesOf, badForm, refusal}
 use Rattle.plan.specs.Reading.{kept, accepted, axisLines, drawLine, memoryLine, reading}
@@ -15,12 +15,12 @@ use Rattle.run.proofs.ExampleLaws.{example}
 use Rattle.theorems.specs.Example.{planText, ExampleListed, OfExample}
 
 read : reading planText ≡ accepted 4 0 exampleAxes
-unfolding any first anyPair before parts same areDigits decimal numberOf limit memoryOf drawOf nameOf valuesOf badForm refusal
-    kept axisLines drawLine memoryLine reading
+unfolding any first anyPair before parts same areDigits decimal numberOf axisLength valueAt axisValues limit memoryOf drawOf nameOf
+    valuesOf badForm refusal kept axisLines drawLine memoryLine reading
 read = refl
 
 pub example-listed : ExampleListed
-unfolding count
+unfolding axisLength count
 example-listed = rw read (ap (λ ls. heading ++ ls) example)
 
 pub of-example : OfExample

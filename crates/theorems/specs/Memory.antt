@@ -8,8 +8,9 @@ use mathlib.Core.List.{List}
 use mathlib.Core.Logic.{_⊎_}
 use Prim.Native.Nat.{ℕ, _+_, _*_, _%_, _^_, _<_, _≤_}
 use lib.ListN.{length}
-use Rattle.memory.specs.Bits.{Memory, bitAt}
+use Rattle.memory.specs.Bits.{mostWords, Memory, bitAt}
 use Rattle.memory.specs.Changed.{changedBits}
+use Rattle.field_refusal.specs.Size.{badSize, meant}
 use Rattle.field.specs.Field.{refusal, fieldRead, fieldWritten}
 use Rattle.timing.specs.Cycles.{isCase, cases, caseOf, holding}
 use Rattle.image.specs.Image.{image}
@@ -29,18 +30,21 @@ ChangedDecides =
 
 -- ---- fields
 
--- Reading what was written gives it back: the n low bits of x, for every size, address and memory
--- that the write is not refused on.
+-- n is a size as it is given, and `meant n` how many bits it means
+
+-- Reading what was written gives it back: the low bits of x, as many as the size means, for every
+-- size, address and memory that the write is not refused on.
 abbrev pub ReadBack : Type 0
 ReadBack =
     (m : List ℕ) (a n x : ℕ) → refusal (length m) a n ≡ 0
-    → (fieldRead (fieldWritten m a n x) a n false .answer ≡ 0)
-    × (fieldRead (fieldWritten m a n x) a n false .value ≡ x % 2 ^ n)
+    → let back = fieldRead (fieldWritten m a n x) a n false in
+    (back .answer ≡ 0) × (back .value ≡ x % 2 ^ meant n)
 
 -- A write leaves every bit outside the field alone.
 abbrev pub WriteFrame : Type 0
 WriteFrame =
-    (m : List ℕ) (a n x b : ℕ) → (b < a) ⊎ (a + n ≤ b) → bitAt (fieldWritten m a n x) b ≡ bitAt m b
+    (m : List ℕ) (a n x b : ℕ) → (b < a) ⊎ (a + meant n ≤ b)
+    → bitAt (fieldWritten m a n x) b ≡ bitAt m b
 
 -- Writing what was read changes nothing, zero or sign extended.
 abbrev pub WriteBack : Type 0
@@ -51,10 +55,10 @@ WriteBack =
 -- A field that would pass the end is refused with 17 and never wraps, at any address.
 abbrev pub PastEnd : Type 0
 PastEnd =
-    (words a n : ℕ) → 0 < words → words ≤ 1048576 → 0 < n → n ≤ 32 → 16 * words < a + n
+    (words a n : ℕ) → 0 < words → words ≤ mostWords → badSize n ≡ false → 16 * words < a + meant n
     → refusal words a n ≡ 17
 
--- Every alignment and size is of exactly one of the cases A to G, and it is the one whose
+-- Every alignment and number of bits is of exactly one of the cases A to G, and it is the one whose
 -- cycles and states are given.
 abbrev pub OneCase : Type 0
 OneCase =

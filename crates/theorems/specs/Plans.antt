@@ -9,7 +9,7 @@ use lib.ListN.{length, getD}
 use Rattle.lists.specs.Search.{any}
 use Rattle.settings.specs.Settings.{settingsOf}
 use Rattle.names.specs.Names.{defaults}
-use Rattle.points.specs.Axes.{Axis, count}
+use Rattle.points.specs.Axes.{Axis, valueAt, count}
 use Rattle.points.specs.Points.{indices, experiment}
 use Rattle.points.specs.Table.{axesIn, pointsIn}
 use Rattle.points.specs.OneToOne.{isNamed, OneToOne}
@@ -68,7 +68,7 @@ NamesHaveValues =
     (text : List ℕ) (n : ℕ)
     → ((none : Axis) (j : ℕ) → j < length (reading text .axes)
     → getD (experiment (reading text .axes) n) (getD (reading text .axes) j none .name) 0
-    ≡ getD (getD (reading text .axes) j none .values) (getD (indices (reading text .axes) n) j 0) 0)
+    ≡ valueAt (getD (reading text .axes) j none) (getD (indices (reading text .axes) n) j 0))
     × ((name : ℕ) → any (isNamed name) (reading text .axes) ≡ false
     → getD (experiment (reading text .axes) n) name 0 ≡ getD defaults name 0)
 

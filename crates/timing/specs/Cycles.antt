@@ -1,10 +1,10 @@
--- Memory cycles of a field move (the scope, "Fields"; 003 section 4.1), by the cases A to G of its size n and s = a mod 16.
--- Assumes nothing.
+-- Memory cycles of a field move (the scope, "Fields"; 003 section 4.1), by the cases A to G of its
+-- n bits and s = a mod 16. Assumes nothing.
 use mathlib.Core.Bool.{Bool, cond, _&&_}
 use mathlib.Core.List.{List, [], _∷_}
 use Prim.Native.Nat.{ℕ, _+_, _%_}
 use lib.Dec.{eqb, leb, ltb}
-use Rattle.field_refusal.specs.Refusal.{badSize}
+use Rattle.field_refusal.specs.Size.{badSize, meant}
 use Rattle.timing.specs.declared.Case.{Case}
 use Rattle.timing.specs.declared.Case.the-variants.{A, B, C, D, E, F, G}
 use Rattle.timing.specs.declared.Cycles.{Cycles}
@@ -57,7 +57,8 @@ writeCycles G = 5
 
 -- a cycle count refuses only 18
 unfoldable pub cyclesOf : ℕ → ℕ → Cycles
-cyclesOf a n =
-    cond (badSize n)
+cyclesOf a size =
+    let case = caseOf (a % 16) (meant size) in
+    cond (badSize size)
     (record { answer = 18; read = 0; write = 0 })
-    (record { answer = 0; read = readCycles (caseOf (a % 16) n); write = writeCycles (caseOf (a % 16) n) })
+    (record { answer = 0; read = readCycles case; write = writeCycles case })

@@ -1,5 +1,5 @@
-// What a field move costs: the case of its alignment and size, and the memory cycles of a read and of a write.
-// No public function has a requires.
+// What a field move costs: the case of its alignment and size, and the memory cycles of a read and
+// of a write. No public function has a requires.
 ghost use mathlib.Core.Path.{_≡_};
 ghost use Rattle.timing.specs.Cycles.{caseOf, readCycles, writeCycles, cyclesOf};
 
@@ -32,7 +32,7 @@ pub fn field_cycles(address: u32, size: u32) -> Cycles
             write: 0,
         };
     }
-    let case = case_of(address % 16, size);
+    let case = case_of(address % 16, field_refusal::meant(size));
     let read = read_cycles(case);
     let write = write_cycles(case);
     Cycles {

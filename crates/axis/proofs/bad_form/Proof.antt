@@ -17,7 +17,8 @@ third-at-requires c κs = search needs
 returns : tie.Need-returns
 returns c =
     let line = now (c .before .before .before .args .line) in
-    sym (badForm-few (fieldsOf line) (sym (fieldsFrom-thirdAt line) ∙ rw (c .before .third-at .ensures) at (fieldsFrom-past line _ (c .if1 .taken))))
+    let none = rw (c .before .third-at .ensures) at (fieldsFrom-past line _ (c .if1 .taken)) in
+    sym (badForm-few (fieldsOf line) (sym (fieldsFrom-thirdAt line) ∙ none))
 
 part-requires : tie.Need-part-requires
 part-requires c κs = search needs
@@ -33,12 +34,13 @@ second-requires c κs = search needs
 
 returns-2 : tie.Need-returns-2
 returns-2 c =
-    let t = c .before .before .before .before in
+    let w = c .before in
+    let t = w .before .before .before in
     let p = t .before in
     let line = now (p .before .before .args .line) in
-    let some = sym (fieldsFrom-thirdAt line) ∙ rw (p .third-at .ensures) at (fieldsFrom-cons line (p .third-at .result) _ refl (t .if1 .left)) in
-    badForm-is (fieldsOf line) _ _ some
-    (c .before .same .ensures ∙ ap (λ (w : List ℕ). same w axisWord) (c .before .before .before .part .ensures .bytes ∙ first-field line))
+    let third = rw (p .third-at .ensures) at (fieldsFrom-cons line (p .third-at .result) _ refl (t .if1 .left)) in
+    badForm-is (fieldsOf line) _ _ (sym (fieldsFrom-thirdAt line) ∙ third)
+    (w .same .ensures ∙ ap (λ (w : List ℕ). same w axisWord) (w .before .before .part .ensures .bytes ∙ first-field line))
     (sym (same-empty (now (c .second .result))) ∙ ap (λ (w : List ℕ). same w []) (c .second .ensures .0))
     (p .before .before .pre)
 

@@ -1,4 +1,4 @@
--- `axis::bad_values` meets its contract: in the block, then behind it.
+-- `axis::bad_values` meets its contract: in the block, then behind it. Assumes nothing.
 use mathlib.Core.Path.{sym, _∙_}
 use lib.Seq.{length-take-le}
 use Rattle.values.proofs.BlockLaws.{held-of, badFrom-in, badFrom-behind, badFrom-next}
@@ -10,46 +10,44 @@ array-share-prefix-values : tie.Need-array-share-prefix-values
 array-share-prefix-values c = held-of (c .before .before .pre) .room
 
 slice-aggregate-any-same : tie.Need-slice-aggregate-any-same
-slice-aggregate-any-same c = sym (length-take-le _ _ (held-of (c .before .before .before .pre) .room))
+slice-aggregate-any-same c = let p = c .before .before .before in sym (length-take-le _ _ (held-of (p .pre) .room))
 
-any-same-requires : tie.Need-any-same-requires
-any-same-requires c κs = search needs
+-- where the block is tested, and the start
+abbrev start : tie.After-any-same → tie.Start
+start s = let a = s .before .before in a .before .before
 
 returns : tie.Need-returns
 returns c =
-    let p = c .before .before .before .before .before .before in
-    sym (badFrom-in (held-of (p .pre)) (rw (c .before .before .any-same .ensures) at (c .if1 .taken)))
+    let s = c .before .before in
+    sym (badFrom-in (held-of (start s .pre)) (rw (s .any-same .ensures) at (c .if1 .taken)))
 
-any-field-requires : tie.Need-any-field-requires
-any-field-requires c κs = search needs
+-- nothing is found in the block
+abbrev passed : tie.Else1 → tie.Start
+passed e = start (e .before .before)
 
 array-share-prefix-values-2 : tie.Need-array-share-prefix-values-2
-array-share-prefix-values-2 c = held-of (c .before .before .before .before .before .before .before .pre) .room
+array-share-prefix-values-2 c = held-of (passed (c .before) .pre) .room
 
 slice-aggregate-any-among : tie.Need-slice-aggregate-any-among
-slice-aggregate-any-among c = sym (length-take-le _ _ (held-of (c .before .before .before .before .before .before .before .before .pre) .room))
-
-any-among-requires : tie.Need-any-among-requires
-any-among-requires c κs = search needs
+slice-aggregate-any-among c = let e = c .before .before in sym (length-take-le _ _ (held-of (passed e .pre) .room))
 
 returns-2 : tie.Need-returns-2
 returns-2 c =
     let f = c .before .before .before in
-    let s = f .before in
-    let p = s .before .before .before .before .before .before in
-    sym (badFrom-behind (held-of (p .pre)) (rw (s .before .before .any-same .ensures) at (s .if1 .left)) (rw (f .any-field .ensures, c .before .any-among .ensures) at (c .if2 .taken)))
-
-any-twice-requires : tie.Need-any-twice-requires
-any-twice-requires c κs = search needs
+    let e = f .before in
+    let s = e .before .before in
+    sym (badFrom-behind (held-of (start s .pre)) (rw (s .any-same .ensures) at (e .if1 .left))
+    (rw (f .any-field .ensures, c .before .any-among .ensures) at (c .if2 .taken)))
 
 returns-3 : tie.Need-returns-3
 returns-3 c =
-    let e = c .before in
-    let f = e .before .before .before in
-    let s = f .before in
-    let p = s .before .before .before .before .before .before in
+    let n = c .before in
+    let f = n .before .before .before in
+    let e = f .before in
+    let s = e .before .before in
     c .any-twice .ensures
-    ∙ sym (badFrom-next (held-of (p .pre)) (rw (s .before .before .any-same .ensures) at (s .if1 .left)) (rw (f .any-field .ensures, e .before .any-among .ensures) at (e .if2 .left)))
+    ∙ sym (badFrom-next (held-of (start s .pre)) (rw (s .any-same .ensures) at (e .if1 .left))
+    (rw (f .any-field .ensures, n .before .any-among .ensures) at (n .if2 .left)))
 
 pub bad-values-spec : {M : Type 1} → statement M
 bad-values-spec =
@@ -57,12 +55,12 @@ bad-values-spec =
     (tie.spec
     array-share-prefix-values
     slice-aggregate-any-same
-    any-same-requires
+    (λ c κs. search needs)
     returns
-    any-field-requires
+    (λ c κs. search needs)
     array-share-prefix-values-2
     slice-aggregate-any-among
-    any-among-requires
+    (λ c κs. search needs)
     returns-2
-    any-twice-requires
+    (λ c κs. search needs)
     returns-3)

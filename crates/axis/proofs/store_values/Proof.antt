@@ -22,7 +22,8 @@ Inv-loop line table₀ at p₀ i₀ table p i =
     (length table ≡ length table₀)
     × (storedAt at (valuesOf (fieldsOf line)) table₀ ≡ storedAt i (map fieldValue (fieldsFrom line p)) table)
     × (at ≤ i)
-    × (length (take (length table₀ - at) (valuesOf (fieldsOf line))) ≡ i - at + length (take (length table₀ - i) (map fieldValue (fieldsFrom line p))))
+    × (length (take (length table₀ - at) (valuesOf (fieldsOf line)))
+    ≡ i - at + length (take (length table₀ - i) (map fieldValue (fieldsFrom line p))))
 
 abbrev μ-loop : tie.MeasureT-loop
 μ-loop line table₀ at p₀ i₀ table p i = length table₀ - i
@@ -47,7 +48,8 @@ unfolding storedAt
 returns c =
     let l = c .before .before .loop in
     let line = now (c .before .before .before .before .before .before .args .line) in
-    (sym (l .inv .3 ∙ rw (fitting-past line (l .p) _ (c .if1 .taken)) (add-zero _)), sym (l .inv .1 ∙ rw (fieldsFrom-past line (l .p) (c .if1 .taken))))
+    let past = c .if1 .taken in
+    (sym (l .inv .3 ∙ rw (fitting-past line (l .p) _ past) (add-zero _)), sym (l .inv .1 ∙ rw (fieldsFrom-past line (l .p) past)))
 
 part-end-requires : tie.Need-part-end-requires Inv-loop μ-loop
 part-end-requires c κs = search needs
@@ -84,11 +86,16 @@ loop-less c = omega arith
 loop-again : tie.Need-loop-again Inv-loop μ-loop
 loop-again c =
     let e = c .before .before in
-    let l = e .before .before .before .loop in (
+    let a = e .before .before .before in
+    let x = a .before .before .before .before .args in
+    let l = a .loop in
+    let n = length (x .table .now) in (
       length-set (l .table) (l .i) _ ∙ l .inv .0,
       l .inv .1 ∙ storedAt-cons _ _ _ _ _ _ (e .part-end .ensures) (e .before .if1 .left) (c .field-value .ensures),
       omega (arith, l .inv .2),
-      l .inv .3 ∙ rw (fitting-cons _ _ _ (l .i) (length (e .before .before .before .before .before .before .before .args .table .now)) (e .part-end .ensures) (e .before .if1 .left) (omega (arith, l .inv .0))) (omega (arith, l .inv .2)),
+      l .inv .3
+          ∙ rw (fitting-cons _ _ _ (l .i) n (e .part-end .ensures) (e .before .if1 .left) (omega (arith, l .inv .0)))
+          (omega (arith, l .inv .2)),
     )
 
 same-length-2 : tie.Need-same-length-2 Inv-loop μ-loop

@@ -12,17 +12,21 @@ use Rattle.field.proofs.put.Statement.{statement}
 use Rattle.field.proofs.put.Tie as tie
 
 -- the old bits, and the new ones, shifted to their place
-old : (c : tie.After-taken) → c .taken .result * 2 ^ (c .before .args .s) % 2 ^ 64 ≡ c .before .args .v / 2 ^ (c .before .args .s) % 2 ^ (c .before .args .n) * 2 ^ (c .before .args .s)
+old : (c : tie.After-taken)
+    → let x = c .before .args in c .taken .result * 2 ^ (x .s) % 2 ^ 64 ≡ x .v / 2 ^ (x .s) % 2 ^ (x .n) * 2 ^ (x .s)
 old c =
     let x = c .before .args in
     ap (λ (t : ℕ). t * 2 ^ (x .s) % 2 ^ 64) (c .taken .ensures) ∙ shifted (x .s) (x .n) (x .v / 2 ^ (x .s)) (omega arith) (omega arith)
 
-new : (c : tie.After-low) → c .low .result * 2 ^ (c .before .before .args .s) % 2 ^ 64 ≡ c .before .before .args .x % 2 ^ (c .before .before .args .n) * 2 ^ (c .before .before .args .s)
+new : (c : tie.After-low)
+    → let x = c .before .before .args in c .low .result * 2 ^ (x .s) % 2 ^ 64 ≡ x .x % 2 ^ (x .n) * 2 ^ (x .s)
 new c =
     let x = c .before .before .args in
     ap (λ (t : ℕ). t * 2 ^ (x .s) % 2 ^ 64) (c .low .ensures) ∙ shifted (x .s) (x .n) (x .x) (omega arith) (omega arith)
 
-sum : (c : tie.After-low) → c .before .before .args .v - c .before .taken .result * 2 ^ (c .before .before .args .s) % 2 ^ 64 + c .low .result * 2 ^ (c .before .before .args .s) % 2 ^ 64 ≡ withBits (c .before .before .args .v) (c .before .before .args .s) (c .before .before .args .n) (c .before .before .args .x)
+sum : (c : tie.After-low)
+    → let x = c .before .before .args in
+    x .v - c .before .taken .result * 2 ^ (x .s) % 2 ^ 64 + c .low .result * 2 ^ (x .s) % 2 ^ 64 ≡ withBits (x .v) (x .s) (x .n) (x .x)
 sum c = let x = c .before .before .args in rw (old (c .before), new c) (withBits-by-sum (x .v) (x .s) (x .n) (x .x))
 
 taken-requires : tie.Need-taken-requires
@@ -43,7 +47,8 @@ shl-result-2 c = search needs
 add-result : tie.Need-add-result
 add-result c =
     let x = c .before .before .args in
-    record { fits = rw (sum c) (lt-of-lt-of-le (withBits-lt 48 (x .v) (x .s) (x .n) (x .x) (omega arith) (omega arith)) (pow-mono {i = 48} {j = 64} (omega arith))) }
+    let small = withBits-lt 48 (x .v) (x .s) (x .n) (x .x) (omega arith) (omega arith) in
+    record { fits = rw (sum c) (lt-of-lt-of-le small (pow-mono {i = 48} {j = 64} (omega arith))) }
 
 returns : tie.Need-returns
 returns c = sum c

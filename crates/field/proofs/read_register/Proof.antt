@@ -15,7 +15,8 @@ bound c =
     let x = c .before .before .args in
     rw (c .read-bits .ensures) (field-lt (x .memory .now) (x .address) (x .size) (omega arith) (omega arith))
 
-top : (c : tie.After-taken) → c .taken .result ≡ bitAt (c .before .before .before .args .memory .now) (c .before .before .before .args .address + c .before .before .before .args .size - 1)
+top : (c : tie.After-taken)
+    → let x = c .before .before .before .args in c .taken .result ≡ bitAt (x .memory .now) (x .address + x .size - 1)
 top c =
     let x = c .before .before .before .args in
     c .taken .ensures ∙ ap (λ (v : ℕ). v / 2 ^ (x .size - 1) % 2) (c .before .read-bits .ensures)
@@ -49,10 +50,13 @@ cast-result c =
 
 returns : tie.Need-returns
 returns c =
-    let k = c .before .before .before in
+    let t = c .before .before in
+    let k = t .before in
     let x = k .before .before .args in
+    let m = x .memory .now in
+    let taken = c .before .if1 .taken in
     rw (k .read-bits .ensures, c .power .ensures)
-    (sym (register-taken (x .memory .now) (x .address) (x .size) (omega arith) (omega arith) (c .before .before .taken .result) (top (c .before .before)) (x .signed) (c .before .if1 .taken)))
+    (sym (register-taken m (x .address) (x .size) (omega arith) (omega arith) (t .taken .result) (top t) (x .signed) taken))
 
 cast-result-2 : tie.Need-cast-result-2
 cast-result-2 c =
@@ -62,10 +66,12 @@ cast-result-2 c =
 
 returns-2 : tie.Need-returns-2
 returns-2 c =
-    let k = c .before .before in
+    let t = c .before in
+    let k = t .before in
     let x = k .before .before .args in
+    let m = x .memory .now in
     k .read-bits .ensures
-    ∙ sym (register-left (x .memory .now) (x .address) (x .size) (omega arith) (omega arith) (c .before .taken .result) (top (c .before)) (x .signed) (c .if1 .left))
+    ∙ sym (register-left m (x .address) (x .size) (omega arith) (omega arith) (t .taken .result) (top t) (x .signed) (c .if1 .left))
 
 pub read-register-spec : {M : Type 1} → statement M
 read-register-spec =

@@ -15,7 +15,8 @@ taken-requires c κs = search needs
 returns : tie.Need-returns
 returns c =
     let x = c .before .before .before .args in
-    c .taken .ensures ∙ rw (c .before .window .ensures) (sym (field-read (x .memory .now) (x .at) (x .count) (x .s) (x .size) (omega arith)))
+    c .taken .ensures
+    ∙ rw (c .before .window .ensures) (sym (field-read (x .memory .now) (x .at) (x .count) (x .s) (x .size) (omega arith)))
 
 pub read-words-spec : {M : Type 1} → statement M
 read-words-spec = tie.close (tie.spec window-requires taken-requires returns)

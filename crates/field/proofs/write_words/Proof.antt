@@ -36,7 +36,8 @@ returns c =
     let x = k .before .args in
     let m = x .memory .now in
     s .store .ensures
-    ∙ ap (withField m (16 * x .at) (16 * x .count)) (p .put .ensures ∙ ap (λ (v : ℕ). withBits v (x .s) (x .size) (x .x)) (w .window .ensures))
+    ∙ ap (withField m (16 * x .at) (16 * x .count))
+    (p .put .ensures ∙ ap (λ (v : ℕ). withBits v (x .s) (x .size) (x .x)) (w .window .ensures))
     ∙ field-written m (x .at) (x .count) (x .s) (x .size) (omega arith) (x .x) (lent k) (omega arith)
 
 pub write-words-spec : {M : Type 1} → statement M

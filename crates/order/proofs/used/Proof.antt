@@ -6,7 +6,8 @@ use borrow.Author.Needs.{needs}
 use borrow.Author.Tests.{eq-eqb, ne-eqb}
 use lib.ListN.{getD}
 use Rattle.lists.proofs.TestLaws.{cond-same}
-use Rattle.lists.proofs.SearchLaws.{tabulate, tabulate-getD}
+use Rattle.lists.specs.Tabulate.{tabulate}
+use Rattle.lists.proofs.SearchLaws.{tabulate-getD}
 use Rattle.segments.specs.Segments.{segmentCount}
 use Rattle.order.specs.Order.{latest}
 use Rattle.order.proofs.used.Statement.{statement}

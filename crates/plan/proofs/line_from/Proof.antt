@@ -25,7 +25,9 @@ add-at : tie.Need-add-at Inv-loop μ-loop
 add-at c = omega (arith, end-le (c .before .before .loop .inv))
 
 add-line : tie.Need-add-line Inv-loop μ-loop
-add-line c = omega (arith, end-le (c .before .before .before .loop .inv), c .before .before .before .loop .inv .place .numbered, c .before .before .before .loop .inv .ends)
+add-line c =
+    let h = c .before .before .before .loop .inv in
+    omega (arith, end-le h, h .place .numbered, h .ends)
 
 loop-less : tie.Need-loop-less Inv-loop μ-loop
 loop-less c =

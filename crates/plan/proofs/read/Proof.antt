@@ -28,7 +28,8 @@ returns-4 c =
     let s = c .before .before in
     let e = s .before .before .before in
     let l = e .before .before .before in
-    answered-good _ _ (omega (arith, l .before .before .if1 .left)) (omega (arith, l .before .if2 .left)) (l .read-lines .ensures .plan-is) (omega (arith, e .if3 .left)) (s .store-axes .ensures)
+    answered-good _ _ (omega (arith, l .before .before .if1 .left)) (omega (arith, l .before .if2 .left)) (l .read-lines .ensures .plan-is)
+    (omega (arith, e .if3 .left)) (s .store-axes .ensures)
 
 pub read-spec : {M : Type 1} → statement M
 read-spec =

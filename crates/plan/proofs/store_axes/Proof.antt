@@ -28,7 +28,8 @@ loop-again c =
     let e = c .before .before in
     let p = e .before .before in
     let l = p .before in
-    turn-stored (l .before .loop .inv) (l .loop-test .taken) _ (p .part .ensures .bytes) (e .store-axis .ensures .1) (e .store-axis .ensures .0)
+    turn-stored (l .before .loop .inv) (l .loop-test .taken) _ (p .part .ensures .bytes) (e .store-axis .ensures .1)
+    (e .store-axis .ensures .0)
 
 same-length : tie.Need-same-length Inv-loop μ-loop
 same-length c = same-table (c .before .loop .inv)

@@ -1,10 +1,9 @@
 -- `with_axis` meets its contract. Assumes nothing.
 use mathlib.Core.Path.{_≡_, sym, ap, _∙_}
+use native.Mathlib.Nat.{min-le-left, min-eq-right}
 use borrow.Author.Needs.{needs}
 use borrow.Author.Tests.{eq-eqb, ne-eqb}
 use denote.Ref.{now}
-use lib.Seq.{take-all}
-use lib.ListN.{length}
 use Rattle.text.specs.Text.{fieldsOf}
 use Rattle.plan.specs.State.{heldRefusal}
 use Rattle.plan.proofs.AxisLaws.{good}
@@ -20,14 +19,15 @@ returns c =
 with-values-requires : tie.Need-with-values-requires
 with-values-requires c κs =
     let a = c .before .before in
+    let s = a .before .before .before .before in
     let g = good _ _ _ (sym (ap (λ x. x .refusal) (a .axis-of .ensures)) ∙ c .if1 .left) in
-    rw (a .axis-of .ensures) (g .known, rw (take-all 64 _ (g .few)) (g .few), g .room, a .before .before .before .before .pre)
+    rw (a .axis-of .ensures) (g .known, min-le-left _ _, g .room, s .pre)
 
 returns-2 : tie.Need-returns-2
 returns-2 c =
     let a = c .before .before .before in
     let zero = sym (ap (λ x. x .refusal) (a .axis-of .ensures)) ∙ c .before .if1 .left in
-    c .with-values .ensures ∙ rw (a .axis-of .ensures, take-all 64 _ (good _ _ _ zero .few), eq-eqb _ 0 zero)
+    c .with-values .ensures ∙ rw (a .axis-of .ensures, min-eq-right (good _ _ _ zero .few), eq-eqb _ 0 zero)
 
 pub with-axis-spec : {M : Type 1} → statement M
 with-axis-spec =

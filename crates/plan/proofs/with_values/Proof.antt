@@ -18,4 +18,5 @@ returns c = rw (c .accepted .ensures)
 
 pub with-values-spec : {M : Type 1} → statement M
 with-values-spec =
-    tie.close (tie.spec (λ c. search needs) (λ c. search needs) (λ c. search needs) (λ c. search needs) mul-accepted (λ c κs. search needs) returns)
+    tie.close
+    (tie.spec (λ c. search needs) (λ c. search needs) (λ c. search needs) (λ c. search needs) mul-accepted (λ c κs. search needs) returns)

@@ -18,15 +18,19 @@ shape : (c : tie.Else1)
     badShape (length (x .image .now)) (length (x .memory .now)) (x .draw) (x .count) (length (x .out .now)) ≡ false
 shape c = sym (c .before .bad-shape .ensures) ∙ c .if1 .left
 
-some : (c : tie.Else2) → noMemory (length (c .before .before .before .before .before .before .before .before .args .image .now)) ≡ false
+some : (c : tie.Else2)
+    → let s = c .before .before in
+    let x = s .before .before .before .before .before .before .args in noMemory (length (x .image .now)) ≡ false
 some c = sym (c .before .no-memory .ensures) ∙ c .if2 .left
 
 -- the test of the points is the definition's
 points-is : (c : tie.After-ends-past)
-    → let x = c .before .before .before .before .before .before .before .before .before .before .args in
+    → let s = c .before .before .before .before in
+    let x = s .before .before .before .before .before .before .args in
     c .ends-past .result ≡ badPoints (x .axes) (x .table .now) (x .first) (x .count)
 points-is c =
-    let x = c .before .before .before .before .before .before .before .before .before .before .args in
+    let s = c .before .before .before .before in
+    let x = s .before .before .before .before .before .before .args in
     c .ends-past .ensures ∙ ap (λ (n : ℕ). endsPast n (x .first) (x .count)) (c .before .points .ensures)
 
 bad-shape-requires : tie.Need-bad-shape-requires
@@ -59,7 +63,8 @@ returns-3 c =
     let m = c .before .before .before in
     let s = m .before .before in
     let x = s .before .before .before .before .before .before .args in
-    ends-twenty-four (x .draw) (x .axes) (x .table .now) (x .first) (x .count) (x .image .now) (x .memory .now) (x .out .now) (shape s) (some m)
+    ends-twenty-four (x .draw) (x .axes) (x .table .now) (x .first) (x .count) (x .image .now) (x .memory .now) (x .out .now) (shape s)
+    (some m)
     (sym (points-is (c .before)) ∙ c .if3 .taken)
 
 run-points-requires : tie.Need-run-points-requires
@@ -70,8 +75,9 @@ run-points-requires c κs =
     let x = s .before .before .before .before .before .before .args in
     let h = shaped (length (x .image .now)) (length (x .memory .now)) (x .draw) (x .count) (length (x .out .now)) (shape s) in
     let l : badPoints (x .axes) (x .table .now) (x .first) (x .count) ≡ false = sym (points-is (p .before)) ∙ p .if3 .left in
+    let n = pointsIn (x .axes) (x .table .now) in
     let e = p .before .before .points .ensures in
-    ((l, last-lt (2 ^ 64) (pointsIn (x .axes) (x .table .now)) (x .first) (x .count) (omega (arith, e)) (omega arith) l), ((some m, h .same), h .room))
+    ((l, last-lt (2 ^ 64) n (x .first) (x .count) (omega (arith, e)) (omega arith) l), ((some m, h .same), h .room))
 
 same-length : tie.Need-same-length
 same-length c = search needs

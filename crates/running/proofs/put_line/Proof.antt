@@ -32,7 +32,8 @@ returns c =
     let x = start .args in
     let given : List ℕ = x .point ∷ x .ran .answer ∷ x .ran .visited ∷ b .bit .result ∷ x .ran .changed ∷ [] in
     let e : numbersLine given ≡ lineOf (x .point) (x .ran) = rw (b .bit .ensures) in
-    line-placed (x .at) (numbersLine given) (lineOf (x .point) (x .ran)) (x .out .now) e (start .pre) (n .numbers .ensures .0) (n .numbers .ensures .1)
+    line-placed (x .at) (numbersLine given) (lineOf (x .point) (x .ran)) (x .out .now) e (start .pre) (n .numbers .ensures .0)
+    (n .numbers .ensures .1)
 
 pub put-line-spec : {M : Type 1} → statement M
 put-line-spec =

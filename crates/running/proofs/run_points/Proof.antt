@@ -27,11 +27,15 @@ run-point-requires c κs =
     let t = c .before .before .before in
     let h = t .before .loop .inv in
     let begin = t .before .before .before .before .before .before in
-    let x = begin .args in (
+    let x = begin .args in
+    let held = axesIn (x .axes) (x .table .now) in
+    let below = t .loop-test .taken in
+    let room =
+    line-room (x .draw) held (x .first) (x .count) (x .image .now) (x .memory .now) (x .out .now) (begin .pre .1 .1) below h in (
       below-of-endsPast _ (x .first) (x .count) (begin .pre .0 .0) _ (t .loop-test .taken),
       (
         (rw (h .imageSize) (begin .pre .1 .0 .0), h .imageSize ∙ begin .pre .1 .0 .1 ∙ sym (h .memorySize)),
-        (h .held, line-room (x .draw) (axesIn (x .axes) (x .table .now)) (x .first) (x .count) (x .image .now) (x .memory .now) (x .out .now) (begin .pre .1 .1) (t .loop-test .taken) h),
+        (h .held, room),
       ),
     )
 
@@ -48,7 +52,8 @@ loop-again c =
     let h = t .before .loop .inv in
     let begin = t .before .before .before .before .before .before in
     let x = begin .args in
-    turn (x .draw) (axesIn (x .axes) (x .table .now)) (x .first) (x .count) (x .image .now) (x .memory .now) (x .out .now) (begin .pre .1 .1) (t .loop-test .taken) h
+    turn (x .draw) (axesIn (x .axes) (x .table .now)) (x .first) (x .count) (x .image .now) (x .memory .now) (x .out .now)
+    (begin .pre .1 .1) (t .loop-test .taken) h
     (r .run-point .ensures .0) (r .run-point .ensures .1 .0) (r .run-point .ensures .1 .1 .0) (r .run-point .ensures .1 .1 .1) (omega arith)
 
 same-length : tie.Need-same-length Inv-loop μ-loop

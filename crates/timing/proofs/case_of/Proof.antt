@@ -19,23 +19,49 @@ returns-2 c = rw (c .before .if1 .left, c .if2 .taken)
 
 returns-3 : tie.Need-returns-3
 unfolding caseOf
-returns-3 c = rw (c .before .before .if1 .left, c .before .if2 .left, c .if3 .taken)
+returns-3 c =
+    let b = c .before in
+    let a = b .before in
+    rw (a .if1 .left, b .if2 .left, c .if3 .taken)
 
 returns-4 : tie.Need-returns-4
 unfolding caseOf
-returns-4 c = rw (c .before .before .before .if1 .left, c .before .before .if2 .left, c .before .if3 .left, c .if4 .taken)
+returns-4 c =
+    let d = c .before in
+    let b = d .before in
+    let a = b .before in
+    rw (a .if1 .left, b .if2 .left, d .if3 .left, c .if4 .taken)
 
 returns-5 : tie.Need-returns-5
 unfolding caseOf
-returns-5 c = rw (c .before .before .before .before .if1 .left, c .before .before .before .if2 .left, c .before .before .if3 .left, c .before .if4 .left, c .if5 .taken)
+returns-5 c =
+    let e = c .before in
+    let d = e .before in
+    let b = d .before in
+    let a = b .before in
+    rw (a .if1 .left, b .if2 .left, d .if3 .left, e .if4 .left, c .if5 .taken)
 
 returns-6 : tie.Need-returns-6
 unfolding caseOf
-returns-6 c = rw (c .before .before .before .before .before .if1 .left, c .before .before .before .before .if2 .left, c .before .before .before .if3 .left, c .before .before .if4 .left, c .before .if5 .left, c .if6 .taken)
+returns-6 c =
+    let f = c .before in
+    let e = f .before in
+    let d = e .before in
+    let b = d .before in
+    let a = b .before in
+    rw (a .if1 .left, b .if2 .left, d .if3 .left, e .if4 .left, f .if5 .left, c .if6 .taken)
 
+-- the last case needs no test: it is what is left
 returns-7 : tie.Need-returns-7
 unfolding caseOf
-returns-7 c = rw (c .before .before .before .before .before .if1 .left, c .before .before .before .before .if2 .left, c .before .before .before .if3 .left, c .before .before .if4 .left, c .before .if5 .left, c .if6 .left) (sym (cond-same (ltb 32 (c .before .before .before .before .before .before .args .s + c .before .before .before .before .before .before .args .n)) G))
+returns-7 c =
+    let f = c .before in
+    let e = f .before in
+    let d = e .before in
+    let b = d .before in
+    let a = b .before in
+    let x = a .before .args in
+    rw (a .if1 .left, b .if2 .left, d .if3 .left, e .if4 .left, f .if5 .left, c .if6 .left) (sym (cond-same (ltb 32 (x .s + x .n)) G))
 
 pub case-of-spec : {M : Type 1} → statement M
 case-of-spec =
