@@ -22,7 +22,10 @@ loop-holds c = nothing-filled _ _ _
 tested : (c : tie.In-loop Inv-loop μ-loop)
     → let given = c .before .before in
     (c .before .loop .count < blockSize) × (c .before .loop .p ≤ length (given .before .args .line .now))
-tested c = fill-test _ _ _ _ (c .loop-test .taken)
+tested c =
+    let given = c .before .before in
+    let t = fill-test (c .before .loop .count) _ (c .before .loop .p) (length (given .before .args .line .now)) (c .loop-test .taken) in
+    (omega (arith, t .0), t .1)
 
 part-parse-end : tie.Need-part-parse-end Inv-loop μ-loop
 part-parse-end c = part-end-le 9 _ _ _ (c .part-end .ensures) (tested (c .before) .1)
