@@ -1,4 +1,5 @@
--- Words of formats as bytes, quoted as they are read, and the bytes that the scope names ("Plans and images"). Assumes nothing.
+-- Words of formats as bytes, quoted as they are read, and the bytes that the scope names ("Plans
+-- and images"). Assumes nothing.
 use mathlib.Core.List.{List, [], _∷_, _++_}
 use Prim.Native.Nat.{ℕ}
 use Prim.Native.Char.{code}

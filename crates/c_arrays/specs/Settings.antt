@@ -10,6 +10,9 @@ use Rattle.c_arrays.specs.Out.{short}
 abbrev pub tooLargeAt : List ℕ → ℕ → Bool
 tooLargeAt s number = tooLargeFor number (getD s number 0)
 
--- there are fewer than thirteen, or one of CONTROL, PSIZE and PMASK, which have 16 bits, is too large
+-- there are fewer than thirteen, or one of CONTROL, PSIZE and PMASK, which have 16 bits, is too
+-- large
 abbrev pub badSettings : List ℕ → Bool
-badSettings s = short settingCount s || (tooLargeAt s controlAt || (tooLargeAt s psizeAt || tooLargeAt s pmaskAt))
+badSettings s =
+    short settingCount s
+    || (tooLargeAt s controlAt || (tooLargeAt s psizeAt || tooLargeAt s pmaskAt))

@@ -1,5 +1,5 @@
--- The heading of experiments, whose lines have a point's number and its fourteen values. The scope knows
--- nothing of it. Assumes nothing.
+-- The heading of experiments, whose lines have a point's number and its fourteen values. The scope
+-- knows nothing of it. Assumes nothing.
 use mathlib.Core.List.{List, [], _∷_, _++_}
 use Prim.Native.Nat.{ℕ}
 use Rattle.ascii.specs.Ascii.{ascii, lineEnd, joined}

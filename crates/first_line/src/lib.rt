@@ -1,6 +1,6 @@
-// The first line of a listing: its heading, the heading of experiments, or the line of a refused plan. It
-// is put into a lent buffer where it fits whole: each function answers the index after it, or the index
-// given where it does not fit, and then nothing is written.
+// The first line of a listing: its heading, the heading of experiments, or the line of a refused
+// plan. It is put into a lent buffer where it fits whole: each function answers the index after it,
+// or the index given where it does not fit, and then nothing is written.
 ghost use mathlib.Core.Path.{_≡_};
 ghost use lib.ListN.{length};
 ghost use Rattle.listing.specs.Listing.{putIf, after, heading, refusedLine};

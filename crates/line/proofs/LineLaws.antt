@@ -14,7 +14,8 @@ use Rattle.line.specs.Tests.{isPair}
 
 -- A line of two fields
 
-pub memoryOf-isPair : (fields : List (List ℕ)) → memoryOf fields ≡ cond (isPair memoryWord fields) (sizeOf (fieldValue (getD fields 1 []))) 0
+pub memoryOf-isPair : (fields : List (List ℕ))
+    → memoryOf fields ≡ cond (isPair memoryWord fields) (sizeOf (fieldValue (getD fields 1 []))) 0
 unfolding memoryOf
 memoryOf-isPair [] = refl
 memoryOf-isPair (word ∷ []) = refl

@@ -1,4 +1,5 @@
--- The memory line, the draw line, and the name of an axis line (the scope, "Plans and images"), over the fields of a line. Assumes nothing.
+-- The memory line, the draw line, and the name of an axis line (the scope, "Plans and images"),
+-- over the fields of a line. Assumes nothing.
 use mathlib.Core.Bool.{cond}
 use mathlib.Core.List.{List, [], _∷_}
 use Prim.Native.Nat.{ℕ}

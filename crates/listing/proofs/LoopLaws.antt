@@ -60,7 +60,8 @@ pub record Lined (ns : List ℕ) (at : ℕ) (out₀ : List ℕ) (i to : ℕ) (ou
 numbersLine-drop : (ns : List ℕ) (i : ℕ) → suc i < length ns
     → numbersLine (drop i ns) ≡ decimal (getD ns i 0) ++ (tab ∷ []) ++ numbersLine (drop (i + 1) ns)
 numbersLine-drop ns i h =
-    rw (drop-cons ns i 0 (omega arith), add-one i) (numbersLine-cons (getD ns i 0) (drop (suc i) ns) (omega (arith, length-drop (suc i) ns)))
+    rw (drop-cons ns i 0 (omega arith), add-one i)
+    (numbersLine-cons (getD ns i 0) (drop (suc i) ns) (omega (arith, length-drop (suc i) ns)))
 
 numbersLine-last : (ns : List ℕ) (i : ℕ) → suc i ≡ length ns → numbersLine (drop i ns) ≡ decimal (getD ns i 0) ++ (lineEnd ∷ [])
 unfolding numbersLine

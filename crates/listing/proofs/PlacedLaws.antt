@@ -68,8 +68,9 @@ length-ended bs end = length-append bs (end ∷ [])
 pub ended-placed : (at end : ℕ) (bs out : List ℕ) → at + (length bs + 1) ≤ length out
     → Placed at (bs ++ (end ∷ [])) out (at + length bs + 1) (set (put at bs out) (at + length bs) end)
 ended-placed at end bs out h =
+    let room : at + length bs < length (put at bs out) = omega (arith, length-put at bs out (omega arith)) in
     rw (length-ended bs end, le-leb _ _ h)
-    (omega arith, put-one (at + length bs) end (put at bs out) (omega (arith, length-put at bs out (omega arith))) ∙ put-put at bs (end ∷ []) out (omega arith))
+    (omega arith, put-one (at + length bs) end (put at bs out) room ∙ put-put at bs (end ∷ []) out (omega arith))
 
 -- the kit's digits put, and a byte after them
 module _ (at n end k : ℕ) (out : List ℕ) (small : n < 2 ^ 64) (fewest : Fewest 10 1 n k) where

@@ -1,4 +1,5 @@
--- Lines of a listing as bytes (the scope, "Plans and images"): decimal numbers with tabs between, ended by byte 10. Assumes nothing.
+-- Lines of a listing as bytes (the scope, "Plans and images"): decimal numbers with tabs between,
+-- ended by byte 10. Assumes nothing.
 use mathlib.Core.Bool.{cond}
 use mathlib.Core.List.{List, [], _∷_, _++_}
 use Prim.Native.Nat.{ℕ, zero, suc, _+_, _/_, _%_}
@@ -9,7 +10,8 @@ use Rattle.ascii.specs.Ascii.{ascii, tab, lineEnd, digit0}
 -- a number's decimal digits, the most significant first, at most k of them
 unfoldable pub digits : ℕ → ℕ → List ℕ
 digits zero n = []
-digits (suc k) n = cond (ltb n 10) ((digit0 + n) ∷ []) (digits k (n / 10) ++ ((digit0 + n % 10) ∷ []))
+digits (suc k) n =
+    cond (ltb n 10) ((digit0 + n) ∷ []) (digits k (n / 10) ++ ((digit0 + n % 10) ∷ []))
 
 -- as many are enough below 2 ^ 64
 abbrev pub mostDigits : ℕ

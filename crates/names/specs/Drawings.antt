@@ -1,4 +1,5 @@
--- The names of the eight drawings (the scope, "What is modelled" and "Plans and images"): the one table of them. Assumes nothing.
+-- The names of the eight drawings (the scope, "What is modelled" and "Plans and images"): the one
+-- table of them. Assumes nothing.
 use mathlib.Core.List.{List, [], _∷_}
 use Prim.Native.Nat.{ℕ}
 use Rattle.ascii.specs.Ascii.{ascii}

@@ -7,7 +7,8 @@ use lib.Dec.{leb}
 use lib.ListN.{getD}
 use Rattle.ascii.specs.Ascii.{ascii}
 
--- a name: its bytes, the bits of its values, which are below 2 ^ bits, and its value where nothing is said of it
+-- a name: its bytes, the bits of its values, which are below 2 ^ bits, and its value where nothing
+-- is said of it
 pub record Name : Type 0 where
   pub word : List ℕ
   pub bits : ℕ

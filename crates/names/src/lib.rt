@@ -1,4 +1,5 @@
-// The fourteen names and the eight drawings, each in the scope's order: the tables of specs/ as code. No public function has a requires.
+// The fourteen names and the eight drawings, each in the scope's order: the tables of specs/ as
+// code. No public function has a requires.
 ghost use mathlib.Core.Path.{_≡_};
 ghost use Prim.Native.Nat.{_+_};
 ghost use Rattle.ascii.specs.Ascii.{joined};
@@ -45,7 +46,8 @@ pub const DRAWING_COUNT: u64 = 8;
 // No memory of a plan has more words.
 pub const MOST_WORDS: usize = 32768;
 
-// The greatest value of the name of a number: one less than its limit. A number that is none may have any value.
+// The greatest value of the name of a number: one less than its limit. A number that is none may
+// have any value.
 pub fn greatest(number: u64) -> u64
     ensures { λ r. ⌜ r + 1 ≡ limit number ⌝ }
 {

@@ -1,5 +1,6 @@
-// Given bytes, and decimal numbers, put into a lent buffer where they fit whole. Each public function
-// answers the index after them, or the index given where they do not fit, and then nothing is written.
+// Given bytes, and decimal numbers, put into a lent buffer where they fit whole. Each public
+// function answers the index after them, or the index given where they do not fit, and then nothing
+// is written.
 ghost use mathlib.Core.Path.{_≡_};
 ghost use mathlib.Core.List.{[], _∷_, _++_};
 ghost use Prim.Native.Nat.{_+_, _≤_};

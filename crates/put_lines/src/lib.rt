@@ -1,5 +1,5 @@
-// Lines of numbers, put into a lent buffer where they fit whole: `numbers` answers the index after the
-// line, or the index given where it does not fit, and then nothing is written.
+// Lines of numbers, put into a lent buffer where they fit whole: `numbers` answers the index after
+// the line, or the index given where it does not fit, and then nothing is written.
 ghost use mathlib.Core.Path.{_≡_};
 ghost use Prim.Native.Nat.{_+_, _≤_, _<_};
 ghost use lib.Dec.{leb};
@@ -12,7 +12,8 @@ pub const NUMBER: usize = put_bytes::DIGITS + 1;
 // A line of numbers.
 pub fn numbers(out: &mut [u8], at: usize, ns: &[u64]) -> usize
     ensures { λ r. ⌜ r ≡ after at (numbersLine (now (ns .entry))) (length (now (out .entry))) ⌝ }
-    ensures { λ r. ⌜ now (out .exit) ≡ putIf at (numbersLine (now (ns .entry))) (now (out .entry)) ⌝ }
+    ensures { λ r.
+        ⌜ now (out .exit) ≡ putIf at (numbersLine (now (ns .entry))) (now (out .entry)) ⌝ }
 {
     if ns.len() == 0 {
         return put_bytes::bytes(out, at, b"\n");

@@ -1,4 +1,5 @@
--- The settings as numbers of a list: the thirteen names in the scope's order ("Plans and images"). Assumes nothing.
+-- The settings as numbers of a list: the thirteen names in the scope's order ("Plans and images").
+-- Assumes nothing.
 use mathlib.Core.List.{List}
 use Prim.Native.Nat.{ℕ, _%_, _^_}
 use lib.ListN.{getD}
@@ -24,7 +25,7 @@ inOrder f =
       pmask = f 12;
     }
 
--- the settings that the first thirteen numbers are: of each as many low bits as its name has, which are all of them where it is below
--- the name's limit; one past the end is 0
+-- the settings that the first thirteen numbers are: of each as many low bits as its name has, which
+-- are all of them where it is below the name's limit; one past the end is 0
 unfoldable pub settingsOf : List ℕ → Settings
 settingsOf ns = inOrder (λ i. getD ns i 0 % 2 ^ bitsOf i)

@@ -1,4 +1,5 @@
-// The settings of a drawing: the scope's thirteen names, in its order. CONTROL, PSIZE and PMASK are 16 bits wide.
+// The settings of a drawing: the scope's thirteen names, in its order. CONTROL, PSIZE and PMASK are
+// 16 bits wide.
 ghost use mathlib.Core.Path.{_≡_};
 ghost use Prim.Native.Nat.{_%_, _^_};
 ghost use lib.ListN.{getD};

@@ -1,5 +1,5 @@
-// The experiments of points: for each a line of its number and its fourteen values, in the order of the
-// names.
+// The experiments of points: for each a line of its number and its fourteen values, in the order of
+// the names.
 ghost use Prim.Native.Nat.{_+_, _^_, _<_};
 use crate::output;
 use crate::output::End;
@@ -13,8 +13,8 @@ const BATCH: usize = 128;
 // No line is longer: a point's number and its fourteen values.
 const LINE: usize = (names::COUNT + 1) * NUMBER;
 
-// The names, and the lines of `count` points from `first` on, or as many as there are. With count 0 no
-// point is asked for.
+// The names, and the lines of `count` points from `first` on, or as many as there are. With count 0
+// no point is asked for.
 pub fn list(p: Plan, table: &[u64], first: u64, count: u64) -> End {
     if count == 0 {
         return output::names(first);
@@ -64,8 +64,8 @@ fn write_some(axes: u64, table: &[u64], first: u64, count: u64) -> End
     output::lines(&space[..n])
 }
 
-// Puts the line of a point, and gives the index behind it; the index itself where there is no such point
-// or no room.
+// Puts the line of a point, and gives the index behind it; the index itself where there is no such
+// point or no room.
 fn put(axes: u64, table: &[u64], point: u64, out: &mut [u8], at: usize) -> usize {
     let mut v = [0u64; names::COUNT];
     if decoding::experiment(table, axes, point, &mut v) != 0 {

@@ -108,8 +108,8 @@ fn number_argument(i: usize) -> Number {
     text::parse(&space[..length])
 }
 
-// Reads the plan that argument i names into the buffer, as much of it as fits; a line on standard error
-// where that fails.
+// Reads the plan that argument i names into the buffer, as much of it as fits; a line on standard
+// error where that fails.
 pub fn plan_text(i: usize, buffer: &mut [u8]) -> Got
     ensures { λ r. ⌜ r .length ≤ length (now (buffer .exit)) ⌝ }
 {

@@ -49,8 +49,8 @@ fn listed(asked: Asked, text: &[u8]) -> End {
     }
 }
 
-// The heading, and the lines of `count` points from `first` on, or as many as there are. With count 0 no
-// point is asked for.
+// The heading, and the lines of `count` points from `first` on, or as many as there are. With count
+// 0 no point is asked for.
 fn list(p: Plan, table: &[u64], first: u64, count: u64) -> End {
     if count == 0 {
         return output::heading(first);

@@ -1,4 +1,5 @@
--- Laws of `specs/Number.antt` on digits that follow a value, as a loop over a field reads them. No contract cites this file. Assumes nothing.
+-- Laws of `specs/Number.antt` on digits that follow a value, as a loop over a field reads them. No contract cites this file. Assumes
+-- nothing.
 use mathlib.Core.Path.{_≡_, refl, sym, ap, ap₂}
 use mathlib.Core.Bool.{Bool, true, false, cond, _&&_, and-false, and-eq-true-iff}
 use mathlib.Core.List.{List, [], _∷_}
@@ -75,7 +76,8 @@ decimal-lt v w (c ∷ a) (d ∷ b) h n t =
     decimal-lt (v * 10 + (c - digit0)) (w * 10 + (d - digit0)) a b (omega arith) (omega arith) (q .1)
 
 -- as many digits with the same value are the same
-pub decimal-inj : (v w : ℕ) (a b : List ℕ) → length a ≡ length b → areDigits a ≡ true → areDigits b ≡ true → decimal v a ≡ decimal w b → (v ≡ w) × (a ≡ b)
+pub decimal-inj : (v w : ℕ) (a b : List ℕ) → length a ≡ length b → areDigits a ≡ true → areDigits b ≡ true → decimal v a ≡ decimal w b
+    → (v ≡ w) × (a ≡ b)
 unfolding areDigits decimal
 decimal-inj v w [] [] n s t e = (e, refl)
 decimal-inj v w [] (d ∷ b) n s t e = absurd (omega arith)

@@ -28,7 +28,8 @@ module _ (mark : ℕ) where
   take-upTo [] = refl
   take-upTo (c ∷ s) = go (eqb c mark) (take-upTo s)
     where
-      go : (b : Bool) → take (length (upTo mark s)) s ≡ upTo mark s → take (length (cond b [] (c ∷ upTo mark s))) (c ∷ s) ≡ cond b [] (c ∷ upTo mark s)
+      go : (b : Bool) → take (length (upTo mark s)) s ≡ upTo mark s
+          → take (length (cond b [] (c ∷ upTo mark s))) (c ∷ s) ≡ cond b [] (c ∷ upTo mark s)
       go true e = refl
       go false e = ap (λ (l : List ℕ). c ∷ l) e
 
@@ -44,14 +45,16 @@ module _ (mark : ℕ) where
       go false h f = ap (λ (l : List ℕ). c ∷ l) (f (omega arith))
 
   -- a part before a mark, and the last part
-  parts-mark : (s : List ℕ) → length (upTo mark s) < length s → parts mark s ≡ upTo mark s ∷ parts mark (drop (suc (length (upTo mark s))) s)
+  parts-mark : (s : List ℕ) → length (upTo mark s) < length s
+      → parts mark s ≡ upTo mark s ∷ parts mark (drop (suc (length (upTo mark s))) s)
   unfolding upTo before parts
   parts-mark [] h = absurd (omega arith)
   parts-mark (c ∷ s) h = go (eqb c mark) h (parts-mark s)
     where
       go : (b : Bool) → length (cond b [] (c ∷ upTo mark s)) < suc (length s)
           → (length (upTo mark s) < length s → parts mark s ≡ upTo mark s ∷ parts mark (drop (suc (length (upTo mark s))) s))
-          → cond b ([] ∷ parts mark s) (before c (parts mark s)) ≡ cond b [] (c ∷ upTo mark s) ∷ parts mark (drop (suc (length (cond b [] (c ∷ upTo mark s)))) (c ∷ s))
+          → cond b ([] ∷ parts mark s) (before c (parts mark s))
+          ≡ cond b [] (c ∷ upTo mark s) ∷ parts mark (drop (suc (length (cond b [] (c ∷ upTo mark s)))) (c ∷ s))
       go true h f = refl
       go false h f = ap (before c) (f (omega arith))
 
@@ -72,7 +75,8 @@ module _ (mark : ℕ) (text : List ℕ) (i : ℕ) where
   unfolding upTo
   upTo-here l e = rw (drop-cons text i 0 l, eq-eqb _ _ e) (omega arith)
 
-  pub upTo-next : i < length text → (getD text i 0 ≡ mark → ⊥) → i + length (upTo mark (drop i text)) ≡ (i + 1) + length (upTo mark (drop (i + 1) text))
+  pub upTo-next : i < length text → (getD text i 0 ≡ mark → ⊥)
+      → i + length (upTo mark (drop i text)) ≡ (i + 1) + length (upTo mark (drop (i + 1) text))
   unfolding upTo
   upTo-next l n = rw (drop-cons text i 0 l, ne-eqb _ _ n, add-one) (omega arith)
 
@@ -134,7 +138,8 @@ same-length a b n = go (same a b) refl
 
 -- as a loop over both finds it
 module _ (a b : List ℕ) (i : ℕ) where
-  pub same-next : i < length a → i < length b → getD a i 0 ≡ getD b i 0 → same (drop i a) (drop i b) ≡ same (drop (i + 1) a) (drop (i + 1) b)
+  pub same-next : i < length a → i < length b → getD a i 0 ≡ getD b i 0
+      → same (drop i a) (drop i b) ≡ same (drop (i + 1) a) (drop (i + 1) b)
   unfolding same
   same-next l m e = rw (drop-cons a i 0 l, drop-cons b i 0 m, eq-eqb _ _ e, add-one)
 

@@ -13,8 +13,8 @@ use Rattle.text.specs.Text.{upTo}
 abbrev pub startOf : List ℕ → ℕ → ℕ
 startOf text from = cond (ltb (length text) from) 0 from
 
--- the part from a place up to a mark: the same block of memory as the text, so far behind the text's
--- own start
+-- the part from a place up to a mark: the same block of memory as the text, so far behind the
+-- text's own start
 pub record PartOf (text part : RefT (List ℕ)) (from mark : ℕ) : Type 0 where
   pub bytes : now part ≡ upTo mark (drop from (now text))
   pub block : part .ptr .0 ≡ text .ptr .0

@@ -37,7 +37,8 @@ loop-less c = omega arith
 loop-again : tie.Need-loop-again Inv-loop μ-loop
 loop-again c =
     let l = c .before .before .before .before .before .before in
-    (omega arith, lined-step _ _ _ (l .before .before .before .pre .1) _ _ _ (l .loop .inv .1) _ _ (omega arith) (c .before .before .number .ensures))
+    let fits = l .before .before .before .pre .1 in
+    (omega arith, lined-step _ _ _ fits _ _ _ (l .loop .inv .1) _ _ (omega arith) (c .before .before .number .ensures))
 
 mul-number-2 : tie.Need-mul-number-2 Inv-loop μ-loop
 mul-number-2 c = search needs

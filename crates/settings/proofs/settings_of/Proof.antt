@@ -7,21 +7,32 @@ use Rattle.settings.proofs.settings_of.Tie as tie
 returns : tie.Need-returns
 unfolding settingsOf
 returns c =
-    let a = c .before .before .before .before .before .before in
+    let psize = c .before in
+    let control = psize .before in
+    let color1 = control .before in
+    let color0 = color1 .before in
+    let dydx = color0 .before in
+    let wend = dydx .before in
+    let wstart = wend .before in
+    let offset = wstart .before in
+    let dptch = offset .before in
+    let daddr = dptch .before in
+    let sptch = daddr .before in
+    let saddr = sptch .before in
     rw (
       c .half-at3 .ensures,
-      c .before .half-at2 .ensures,
-      c .before .before .half-at .ensures,
-      c .before .before .before .word-at10 .ensures,
-      c .before .before .before .before .word-at9 .ensures,
-      c .before .before .before .before .before .word-at8 .ensures,
-      a .word-at7 .ensures,
-      a .before .word-at6 .ensures,
-      a .before .before .word-at5 .ensures,
-      a .before .before .before .word-at4 .ensures,
-      a .before .before .before .before .word-at3 .ensures,
-      a .before .before .before .before .before .word-at2 .ensures,
-      a .before .before .before .before .before .before .word-at .ensures,
+      psize .half-at2 .ensures,
+      control .half-at .ensures,
+      color1 .word-at10 .ensures,
+      color0 .word-at9 .ensures,
+      dydx .word-at8 .ensures,
+      wend .word-at7 .ensures,
+      wstart .word-at6 .ensures,
+      offset .word-at5 .ensures,
+      dptch .word-at4 .ensures,
+      daddr .word-at3 .ensures,
+      sptch .word-at2 .ensures,
+      saddr .word-at .ensures,
     )
 
 pub settings-of-spec : {M : Type 1} → statement M

@@ -33,7 +33,9 @@ enum-told c = search needs
 returns : tie.Need-returns Inv-loop μ-loop
 returns c =
     let b = c .before .before .before .before .before in
-    sym (b .loop .inv .1 ∙ digitsOf-stop _ (b .loop .i) (b .loop .v) (omega arith) (sym (c .before .before .push .ensures) ∙ c .enum-told .given .1))
+    let l = b .loop in
+    let bad = sym (c .before .before .push .ensures) ∙ c .enum-told .given .1 in
+    sym (l .inv .1 ∙ digitsOf-stop _ (l .i) (l .v) (omega arith) bad)
 
 add-i : tie.Need-add-i Inv-loop μ-loop
 add-i c = search needs

@@ -7,7 +7,12 @@ use Rattle.sweep.proofs.work.run_batches.Statement.{statement}
 use Rattle.sweep.proofs.work.run_batches.Tie as tie
 
 abbrev Inv-loop : tie.InvT-loop
-Inv-loop p table first count image₀ memory₀ words shown₀ done₀ image memory shown done = (done ≤ count) × (words ≤ length image) × (words ≤ length memory) × (length image ≡ length image₀) × (length memory ≡ length memory₀)
+Inv-loop p table first count image₀ memory₀ words shown₀ done₀ image memory shown done =
+    (done ≤ count)
+    × (words ≤ length image)
+    × (words ≤ length memory)
+    × (length image ≡ length image₀)
+    × (length memory ≡ length memory₀)
 
 abbrev μ-loop : tie.MeasureT-loop
 μ-loop p table first count image₀ memory₀ words shown₀ done₀ image memory shown done = count - done
