@@ -1,5 +1,5 @@
--- What the refusals 13 to 17 test of a FILL or PIXBLT call, in the table's order (the scope, "Refusal
--- numbers"), and the refusal of a call. Assumes nothing.
+-- What the refusals 13 to 17 test of a FILL or PIXBLT call, in the table's order (the scope,
+-- "Refusal numbers"), and the refusal of a call. Assumes nothing.
 use mathlib.Core.Bool.{Bool, cond, not, _&&_, _||_}
 use Prim.Native.Nat.{ℕ}
 use lib.Dec.{eqb, ltb}
@@ -16,14 +16,18 @@ use Rattle.operation.specs.declared.Operation.{Operation}
 use Rattle.operation.specs.Operation.{toXY, fromXY, sourceOf, copies, copiesPixels}
 use Rattle.arrays.specs.Array.{part, startX, startY, drawingFor}
 
--- 13: a pitch that is used is bad. DPTCH is used; SPTCH too by a source of pixels (for B sources any value)
+-- 13: a pitch that is used is bad. DPTCH is used; SPTCH too by a source of pixels (for B sources
+-- any value)
 abbrev pub badPitch : Bool → ℕ → Bool
 badPitch xy pitch = cond xy (badXYPitch pitch) (badLinearPitch pitch)
 
 abbrev pub badPitches : Operation → Settings → Bool
-badPitches op s = badPitch (toXY op) (s .dptch) || (copiesPixels (sourceOf op) && badPitch (fromXY op) (s .sptch))
+badPitches op s =
+    badPitch (toXY op) (s .dptch)
+    || (copiesPixels (sourceOf op) && badPitch (fromXY op) (s .sptch))
 
--- 16: an XY start after clipping has a negative X or Y, or the linear address at which a pixel array starts isn't a multiple of PSIZE
+-- 16: an XY start after clipping has a negative X or Y, or the linear address at which a pixel
+-- array starts isn't a multiple of PSIZE
 abbrev pub negativeStart : ℕ → Clipped → Bool
 negativeStart xy c = negative (startX xy c) || negative (startY xy c)
 

@@ -1,6 +1,6 @@
--- The layout of CONTROL, which has 16 bits: T bit 5, W bits 6-7, PBH bit 8, PBV bit 9, PP bits 10-14,
--- CD bit 15 (the scope, "Refusal numbers", "One pixel", "Arrays, windows and slices" and "Cache").
--- Assumes nothing.
+-- The layout of CONTROL, which has 16 bits: T bit 5, W bits 6-7, PBH bit 8, PBV bit 9, PP bits
+-- 10-14, CD bit 15 (the scope, "Refusal numbers", "One pixel", "Arrays, windows and slices" and
+-- "Cache"). Assumes nothing.
 use mathlib.Core.Bool.{Bool, _||_}
 use Prim.Native.Nat.{ℕ, _/_, _%_, _^_}
 use lib.Dec.{eqb, ltb}

@@ -1,5 +1,6 @@
--- A lone pixel (the scope, "Refusal numbers" and "Arrays, windows and slices"): whether PIXT or DRAV is refused, whether there is a
--- pixel to draw or read, where it is, and the flags. Assumes nothing.
+-- A lone pixel (the scope, "Refusal numbers" and "Arrays, windows and slices"): whether PIXT or
+-- DRAV is refused, whether there is a pixel to draw or read, where it is, and the flags. Assumes
+-- nothing.
 use mathlib.Core.Bool.{Bool, true, false, not, _&&_, _||_}
 use Prim.Native.Nat.{ℕ, _*_}
 use lib.Dec.{eqb, leb}
@@ -14,8 +15,8 @@ use Rattle.refusal.specs.declared.Tests.{Tests}
 use Rattle.refusal.specs.Refusal.{badWindowOf, lowest}
 use Rattle.lone.specs.declared.Lone.{Lone}
 
--- the tests of a call: 13 is for XY pixels, 14 for XY destinations; 16 and 17 are given where there is
--- a pixel to draw or read; there is no place
+-- the tests of a call: 13 is for XY pixels, 14 for XY destinations; 16 and 17 are given where there
+-- is a pixel to draw or read; there is no place
 abbrev pub testsOf : ℕ → Bool → Bool → Bool → Bool → ℕ → Tests
 testsOf words pitch window some start a =
     record {
@@ -34,7 +35,13 @@ refusal words s pitch window some start a =
 -- a pixel at a linear address: no pitch, no window, V is kept
 unfoldable pub linearPixel : ℕ → Settings → ℕ → Bool → Lone
 linearPixel words s a v =
-    record { answer = refusal words s false false true (misaligned (s .psize) a) a; some = true; address = a; v = v; request = false }
+    record {
+      answer = refusal words s false false true (misaligned (s .psize) a) a;
+      some = true;
+      address = a;
+      v = v;
+      request = false;
+    }
 
 -- the linear address of an XY pixel, with DPTCH
 abbrev pub placeOf : Settings → ℕ → ℕ

@@ -9,7 +9,8 @@ use settings::Settings;
 use windows::Clipped;
 use windows::Rectangle;
 
-// A lone pixel: the refusal's number or 0, whether there is a pixel to draw or read, its address, V and the request.
+// A lone pixel: the refusal's number or 0, whether there is a pixel to draw or read, its address, V
+// and the request.
 pub struct Lone {
     pub answer: u32,
     pub some: bool,

@@ -1,6 +1,6 @@
--- The refusals 10 to 17 of the calls that take settings (the scope, "Refusal numbers"): FILL, PIXBLT,
--- PIXT and DRAV. 10, 11 and 12 ask the same of every call; what the others ask of one is its own, and
--- is handed over as `Tests`. Assumes nothing.
+-- The refusals 10 to 17 of the calls that take settings (the scope, "Refusal numbers"): FILL,
+-- PIXBLT, PIXT and DRAV. 10, 11 and 12 ask the same of every call; what the others ask of one is
+-- its own, and is handed over as `Tests`. Assumes nothing.
 use mathlib.Core.Bool.{Bool, cond, _&&_}
 use Prim.Native.Nat.{ℕ}
 use Rattle.memory.specs.Bits.{noMemory}

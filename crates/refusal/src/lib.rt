@@ -4,8 +4,8 @@ ghost use Rattle.refusal.specs.Refusal.{table, lowest, badWindowOf};
 use settings::Settings;
 
 // What a call tests besides memory, PSIZE and CONTROL: each test is true where its number is given.
-// 13, a pitch that is used is bad; 14, the window is; 15, the place is too great; 16, a start is bad;
-// 17, some pixel or source bit lies past the memory's end.
+// 13, a pitch that is used is bad; 14, the window is; 15, the place is too great; 16, a start is
+// bad; 17, some pixel or source bit lies past the memory's end.
 pub struct Tests {
     pub pitch: bool,
     pub window: bool,

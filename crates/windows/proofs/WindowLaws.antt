@@ -1,4 +1,5 @@
--- Windows: what W means, case by case; what is kept; the common rectangle is the intersection. No contract cites this file. Assumes nothing.
+-- Windows: what W means, case by case; what is kept; the common rectangle is the intersection. No contract cites this file.
+-- Assumes nothing.
 use mathlib.Core.Path.{_≡_, refl, ap}
 use mathlib.Core.Bool.{Bool, true, false, cond, not, and-eq-true-iff}
 use mathlib.Core.Logic.{_⊎_, inl, inr, ⊎-elim}
@@ -149,9 +150,9 @@ module _ (r : Rectangle) (win : Window) where
   pub seen-of-inside : inside r win ≡ true → (a b : ℕ) → Pixel r a b → Seen win a b
   unfolding across down
   seen-of-inside i a b p =
-      let x : (win .left ≤ r .x) × (r .x + r .cols ≤ suc (win .right)) = allIn-true (r .x) (r .cols) (win .left) (win .right) (and-eq-true-iff across down .0 i .0) in
-      let y : (win .top ≤ r .y) × (r .y + r .rows ≤ suc (win .bottom)) = allIn-true (r .y) (r .rows) (win .top) (win .bottom) (and-eq-true-iff across down .0 i .1) in
-      omega arith
+      let x = allIn-true (r .x) (r .cols) (win .left) (win .right) (and-eq-true-iff across down .0 i .0) in
+      let y = allIn-true (r .y) (r .rows) (win .top) (win .bottom) (and-eq-true-iff across down .0 i .1) in
+      omega (arith, x, y)
 
   pub inside-of-seen : empty r ≡ false → ((a b : ℕ) → Pixel r a b → Seen win a b) → inside r win ≡ true
   inside-of-seen e h =

@@ -2,10 +2,12 @@
 ghost use mathlib.Core.Path.{_≡_};
 ghost use Prim.Native.Nat.{_-_, max, min};
 ghost use Rattle.address.specs.Coordinate.{negative};
-ghost use Rattle.windows.specs.Window.{windowOf, badWindow, badWindowing, shared, allIn, empty, inside, common, meet};
+ghost use Rattle.windows.specs.Window.{windowOf, badWindow, badWindowing, shared, allIn};
+ghost use Rattle.windows.specs.Window.{empty, inside, common, meet};
 ghost use Rattle.windows.specs.Window.{nothing, whole, part, clipped, vUnder};
 
-// A rectangle of pixels: its upper left coordinates, each held as itself plus 2^15, its columns and its rows.
+// A rectangle of pixels: its upper left coordinates, each held as itself plus 2^15, its columns and
+// its rows.
 pub struct Rectangle {
     pub x: u16,
     pub y: u16,
@@ -21,7 +23,8 @@ pub struct Window {
     pub bottom: u16,
 }
 
-// What is drawn of a rectangle: columns skipped at its left, rows skipped above, columns and rows kept; the request.
+// What is drawn of a rectangle: columns skipped at its left, rows skipped above, columns and rows
+// kept; the request.
 pub struct Clipped {
     pub left: u16,
     pub above: u16,

@@ -19,7 +19,8 @@ returns-3 : tie.Need-returns-3
 unfolding vUnder
 returns-3 c =
     let e = c .before .before in
-    rw (ne-eqb _ _ (e .before .before .if1 .left), sym (e .before .is-empty .ensures) ∙ e .if2 .left, eq-eqb _ _ (c .before .if3 .taken)) (c .meets .ensures)
+    rw (ne-eqb _ _ (e .before .before .if1 .left), sym (e .before .is-empty .ensures) ∙ e .if2 .left, eq-eqb _ _ (c .before .if3 .taken))
+    (c .meets .ensures)
 
 returns-4 : tie.Need-returns-4
 unfolding vUnder
