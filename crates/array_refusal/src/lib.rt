@@ -73,10 +73,12 @@ fn bad_dest(op: Operation, s: Settings, c: Clipped, d: Drawing) -> bool
 fn bad_source(op: Operation, s: Settings, c: Clipped, d: Drawing) -> bool
     ensures { λ r. ⌜ r ≡ badSource op s c d ⌝ }
 {
+    if !operation::copies_pixels(operation::source_of(op)) {
+        return false;
+    }
     let below = negative_start(s.saddr, c);
     let uneven = address::misaligned(s.psize, d.src.start);
-    let pixels = operation::copies_pixels(operation::source_of(op));
-    pixels & ((operation::from_xy(op) & below) | uneven)
+    (operation::from_xy(op) & below) | uneven
 }
 
 // Does some pixel or source bit lie past the memory's end?
@@ -84,9 +86,11 @@ fn leaves(words: usize, op: Operation, d: Drawing) -> bool
     ensures { λ r. ⌜ r ≡ leaves words op d ⌝ }
 {
     let dest = extent::leaves_memory(words, d.dest, d.cols, d.rows);
+    if !operation::copies(operation::source_of(op)) {
+        return dest;
+    }
     let src = extent::leaves_memory(words, d.src, d.cols, d.rows);
-    let copy = operation::copies(operation::source_of(op));
-    dest | (copy & src)
+    dest | src
 }
 
 // Are there pixels to draw, and is a start bad?
