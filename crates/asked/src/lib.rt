@@ -8,7 +8,7 @@ use run::LINE;
 pub fn bad_shape(words: usize, others: usize, draw: u64, count: u64, size: usize) -> bool
     ensures { λ r. ⌜ r ≡ badShape words others draw count size ⌝ }
 {
-    (names::MOST_WORDS < words)
+    (names::PLAN_WORDS < words)
         | (words != others)
         | (names::DRAWING_COUNT <= draw)
         | (((size / LINE) as u64) < count)

@@ -51,12 +51,12 @@ fn set_defaults(out: &mut [u64])
     requires { ⌜ nameCount ≤ length (now out) ⌝ }
     ensures { λ _. ⌜ now (out .exit) ≡ withDefaults (now (out .entry)) ⌝ }
 {
-    let defaults = names::defaults();
     let mut i = 0;
     while i < names::COUNT {
-        out[i] = defaults[i];
+        out[i] = 0;
         i += 1;
     }
+    out[names::PSIZE] = names::PSIZE_DEFAULT;
 }
 
 // The fourteen values of a point. Answers 0, or 24 where the number is not below the count, or 9

@@ -33,11 +33,11 @@ pub fn name_of(line: &[u8]) -> u64
     tabs::index_of(&list, tabs::second(line))
 }
 
-// A memory's size: 0 for a number above MOST_WORDS.
+// A memory's size: 0 for a number above PLAN_WORDS.
 fn size_of(n: u64) -> u64
     ensures { λ r. ⌜ r ≡ sizeOf n ⌝ }
 {
-    if n <= names::MOST_WORDS as u64 {
+    if n <= names::PLAN_WORDS as u64 {
         return n;
     }
     0

@@ -3,7 +3,7 @@
 ghost use mathlib.Core.Path.{_≡_};
 ghost use Prim.Native.Nat.{_+_};
 ghost use Rattle.ascii.specs.Ascii.{joined};
-ghost use Rattle.names.specs.Names.{names, defaults, limit};
+ghost use Rattle.names.specs.Names.{names, limit};
 ghost use Rattle.names.specs.Drawings.{drawings};
 
 // How many names there are, and how many settings: all but the last name, which is SEED.
@@ -40,11 +40,14 @@ pub const PMASK: usize = 12;
 
 pub const SEED: usize = 13;
 
+// The value of PSIZE where nothing is said of it; that of every other name is 0.
+pub const PSIZE_DEFAULT: u64 = 16;
+
 // How many drawings there are.
 pub const DRAWING_COUNT: u64 = 8;
 
 // No memory of a plan has more words.
-pub const MOST_WORDS: usize = 32768;
+pub const PLAN_WORDS: usize = 32768;
 
 // The greatest value of the name of a number: one less than its limit. A number that is none may
 // have any value.
@@ -65,13 +68,6 @@ pub fn list() -> [u8; 86]
     ensures { λ r. ⌜ r ≡ joined names ⌝ }
 {
     *b"SADDR\tSPTCH\tDADDR\tDPTCH\tOFFSET\tWSTART\tWEND\tDYDX\tCOLOR0\tCOLOR1\tCONTROL\tPSIZE\tPMASK\tSEED"
-}
-
-// Their values where nothing is said of them.
-pub fn defaults() -> [u64; COUNT]
-    ensures { λ r. ⌜ r ≡ defaults ⌝ }
-{
-    [0, 0, 0, 0, 0, 0, 0, 0, 0, 0, 0, 16, 0, 0]
 }
 
 // The names of the drawings, with a tab between any two.

@@ -69,8 +69,8 @@ fn list(p: Plan, table: &[u64], first: u64, count: u64) -> End {
 fn run_all(p: Plan, table: &[u64], first: u64, count: u64) -> End
     requires { ⌜ first + count < 2 ^ 64 ⌝ }
 {
-    let mut image = [0u16; names::MOST_WORDS];
-    let mut memory = [0u16; names::MOST_WORDS];
+    let mut image = [0u16; names::PLAN_WORDS];
+    let mut memory = [0u16; names::PLAN_WORDS];
     run_batches(p, table, first, count, &mut image, &mut memory)
 }
 
