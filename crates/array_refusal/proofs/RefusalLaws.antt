@@ -8,13 +8,13 @@ use Rattle.refusal.specs.declared.Tests.{Tests}
 use Rattle.refusal.proofs.RefusalLaws as table
 use Rattle.plot.specs.Drawing.{pixels}
 use Rattle.operation.specs.declared.Operation.{Operation}
-use Rattle.arrays.specs.Array.{part, drawingFor}
+use Rattle.arrays.specs.Array.{clippedArray, drawingFor}
 use Rattle.array_refusal.specs.Refusal.{testsOf, refusalOf, refusal}
 
 module _ (op : Operation) (s : Settings) where
   -- the tests of a call at place k over w words, and that it passes them
   abbrev pub testsAt : ℕ → ℕ → Tests
-  testsAt k w = testsOf op s (part op s) (drawingFor op s) k w
+  testsAt k w = testsOf op s (clippedArray op s) (drawingFor op s) k w
 
   abbrev pub Passes : ℕ → ℕ → Type 0
   Passes k w = table.Passes w s (testsAt k w)

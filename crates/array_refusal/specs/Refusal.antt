@@ -14,7 +14,7 @@ use Rattle.plot.specs.Drawing.{pixels}
 use Rattle.plot.specs.declared.Drawing.{Drawing}
 use Rattle.operation.specs.declared.Operation.{Operation}
 use Rattle.operation.specs.Operation.{toXY, fromXY, sourceOf, copies, copiesPixels}
-use Rattle.arrays.specs.Array.{part, startX, startY, drawingFor}
+use Rattle.arrays.specs.Array.{clippedArray, startX, startY, drawingFor}
 
 -- 13: a pitch that is used is bad. DPTCH is used; SPTCH too by a source of pixels (for B sources
 -- any value)
@@ -65,4 +65,4 @@ refusalOf op s c d place words = lowest words s (testsOf op s c d place words)
 
 -- the refusal of a call: the lowest number that applies, or 0
 unfoldable pub refusal : Operation → Settings → ℕ → ℕ → ℕ
-refusal op s place words = refusalOf op s (part op s) (drawingFor op s) place words
+refusal op s place words = refusalOf op s (clippedArray op s) (drawingFor op s) place words

@@ -7,7 +7,7 @@ use Rattle.walk.specs.declared.Walk.{Walk}
 use Rattle.walk.specs.Walk.{addressAt, startAt}
 use Rattle.address.specs.Coordinate.{xOf, yOf}
 use Rattle.address.specs.Address.{xyAddress}
-use Rattle.windows.specs.Window.{windowOf, clipped, vUnder, whole}
+use Rattle.windows.specs.Window.{windowOf, clipped, vUnder, unclipped}
 use Rattle.windows.specs.declared.Rectangle.{Rectangle}
 use Rattle.windows.specs.declared.Clipped.{Clipped}
 use Rattle.settings.specs.declared.Settings.{Settings}
@@ -28,11 +28,11 @@ rectangleOf s =
     }
 
 -- what of it is drawn, with the request; linear destinations ignore W
-unfoldable pub part : Operation → Settings → Clipped
-part op s =
+unfoldable pub clippedArray : Operation → Settings → Clipped
+clippedArray op s =
     cond (toXY op)
     (clipped (windowing (s .control)) (rectangleOf s) (windowOf (s .wstart) (s .wend)))
-    (whole (rectangleOf s))
+    (unclipped (rectangleOf s))
 
 -- V after the call; linear destinations keep it
 unfoldable pub vAfter : Operation → Settings → Bool → Bool
@@ -94,4 +94,4 @@ drawingOf op s c =
 
 -- the drawing of an operation with its settings
 abbrev pub drawingFor : Operation → Settings → Drawing
-drawingFor op s = drawingOf op s (part op s)
+drawingFor op s = drawingOf op s (clippedArray op s)

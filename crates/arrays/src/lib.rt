@@ -1,6 +1,6 @@
 // The arrays of a drawing after the window: what is drawn, and both walks.
 ghost use mathlib.Core.Path.{_≡_};
-ghost use Rattle.arrays.specs.Array.{rectangleOf, part, vAfter, startX, startY, destStart};
+ghost use Rattle.arrays.specs.Array.{rectangleOf, clippedArray, vAfter, startX, startY, destStart};
 ghost use Rattle.arrays.specs.Array.{stepOf, linearSource, srcStart, drawingOf};
 use operation::Operation;
 use plot::Drawing;
@@ -23,8 +23,8 @@ pub fn rectangle_of(s: Settings) -> Rectangle
 }
 
 // What is drawn, with the request.
-pub fn part_of(op: Operation, s: Settings) -> Clipped
-    ensures { λ r. ⌜ r ≡ part op s ⌝ }
+pub fn clipped_array(op: Operation, s: Settings) -> Clipped
+    ensures { λ r. ⌜ r ≡ clippedArray op s ⌝ }
 {
     let r = rectangle_of(s);
     if operation::to_xy(op) {

@@ -15,7 +15,7 @@ use Rattle.line.specs.Words.{axisWord}
 use Rattle.points.specs.Axes.{axisLength, mostValues}
 use Rattle.tabs.specs.Fields.{fieldValue, noNumber}
 use Rattle.line.specs.Line.{nameOf}
-use Rattle.axis.specs.Axis.{axisOf, badForm, refusal, axisLine, storedAt}
+use Rattle.axis.specs.Axis.{axisOf, badForm, lineRefusal, axisLine, storedAt}
 use Rattle.tabs.specs.Fields.{fieldsFrom}
 use Rattle.tabs.proofs.FieldsLaws.{fieldsFrom-past, fieldsFrom-cons}
 
@@ -75,6 +75,6 @@ fitting-cons line p e i n is l h =
 -- What is handed back of an axis line
 
 pub axisLine-is : (came : ℕ → Bool) (axes : ℕ) (fields : List (List ℕ)) {number name count : ℕ}
-    → number ≡ refusal came axes fields → name ≡ nameOf fields → count ≡ min mostValues (axisLength (axisOf fields))
+    → number ≡ lineRefusal came axes fields → name ≡ nameOf fields → count ≡ min mostValues (axisLength (axisOf fields))
     → record { refusal = number; name = name; count = count } ≡ axisLine came axes fields
 axisLine-is came axes fields r n k i = record { refusal = r i; name = n i; count = k i }

@@ -42,8 +42,8 @@ abbrev pub tooMany : ℕ → Axis → Bool
 tooMany axes a = leb mostAxes axes || ltb mostValues (axisLength a)
 
 -- an axis line, where some names came before on so many axes: the lowest number that applies, or 0
-unfoldable pub refusal : (ℕ → Bool) → ℕ → List (List ℕ) → ℕ
-refusal came axes fields =
+unfoldable pub lineRefusal : (ℕ → Bool) → ℕ → List (List ℕ) → ℕ
+lineRefusal came axes fields =
     cond (badForm fields) 20 (
     cond (badName came (nameOf fields)) 21 (
     cond (badValues (axisOf fields)) 22 (
@@ -53,7 +53,7 @@ refusal came axes fields =
 abbrev pub axisLine : (ℕ → Bool) → ℕ → List (List ℕ) → AxisLine
 axisLine came axes fields =
     record {
-      refusal = refusal came axes fields;
+      refusal = lineRefusal came axes fields;
       name = nameOf fields;
       count = min mostValues (axisLength (axisOf fields));
     }
@@ -61,7 +61,7 @@ axisLine came axes fields =
 -- after these axes
 abbrev pub axisRefusal : List Axis → List (List ℕ) → ℕ
 axisRefusal axes fields =
-    refusal (λ name. any (λ (a : Axis). eqb (a .name) name) axes) (length axes) fields
+    lineRefusal (λ name. any (λ (a : Axis). eqb (a .name) name) axes) (length axes) fields
 
 -- numbers stored from an index on, as far as there is room
 unfoldable pub storedAt : ℕ → List ℕ → List ℕ → List ℕ

@@ -12,7 +12,7 @@ ghost use Rattle.values.specs.Block.{valuesFrom, BlockAt};
 ghost use Rattle.axis.specs.Axis.{valuesOf, badForm, badName, axisLine, storedAt};
 use points::AXES;
 use values::Block;
-use values::Test;
+use values::FieldTest;
 
 // What an `axis` line is: 0 or its refusal, its name's number, and how many values it has, at most
 // 64.
@@ -36,7 +36,7 @@ pub fn axis_of(line: &[u8], seen: [bool; names::COUNT], axes: u64) -> AxisLine
     let count = b.count as u64;
     if bad_form(
         line,
-        b.bad | values::any_field(line, behind, Test::NoNumber),
+        b.bad | values::any_field(line, behind, FieldTest::NoNumber),
     ) {
         return axis_line(20, name, count);
     }
@@ -117,7 +117,7 @@ fn bad_values(line: &[u8], from: usize, most: u64, b: Block) -> bool
     if b.above | values::any_same(&values[..count]) {
         return true;
     }
-    if values::any_field(line, behind, Test::Above(most))
+    if values::any_field(line, behind, FieldTest::Above(most))
         | values::any_among(line, behind, &values[..count])
     {
         return true;

@@ -5,11 +5,11 @@ use mathlib.Core.List.{List}
 use Prim.Native.Nat.{ℕ}
 use lib.ListN.{length}
 use Rattle.settings.specs.Settings.{settingsOf}
-use Rattle.lone.specs.Lone.{placeOf, xyDestination}
-use Rattle.pixt.specs.Pixt.{drawnAt}
-use Rattle.drav.specs.Drav.{colorAt, dravOf}
+use Rattle.lone.specs.Lone.{pixelAddress, xyDestination}
+use Rattle.pixt.specs.Pixt.{loneDrawn}
+use Rattle.drav.specs.Drav.{pointColor, dravOf}
 use Rattle.c_arrays.specs.Out.{isSet}
-use Rattle.c_lone.specs.Pixel.{badPixel, dravResults, PixelCall}
+use Rattle.c_lone.specs.Pixel.{badPixel, dravNumbers, PixelCall}
 
 -- `drav`
 abbrev pub DravCall : (memory settings : List ℕ) (step point v : ℕ) (out : List ℕ)
@@ -18,6 +18,6 @@ DravCall memory settings step point v out answer memory′ out′ =
     let s = settingsOf settings in
     let at = xyDestination (length memory) s point (isSet v) in
     let call = dravOf s (isSet v) point step at in
-    let drawn = drawnAt s at (colorAt s (placeOf s point)) memory in
+    let drawn = loneDrawn s at (pointColor s (pixelAddress s point)) memory in
     let after = cond (badPixel settings out) memory drawn in
-    PixelCall settings out (call .answer) (dravResults call) after answer memory′ out′
+    PixelCall settings out (call .answer) (dravNumbers call) after answer memory′ out′

@@ -5,7 +5,7 @@ use mathlib.Core.Bool.{_||_}
 use mathlib.Core.List.{List, [], _∷_}
 use Prim.Native.Nat.{ℕ}
 use lib.ListN.{length}
-use Rattle.field.specs.Field.{refusal, fieldRead, fieldWritten}
+use Rattle.field.specs.Field.{fieldRefusal, fieldRead, fieldWritten}
 use Rattle.timing.specs.Cycles.{cyclesOf}
 use Rattle.states.specs.MoveStates.{moveStates}
 use Rattle.c_arrays.specs.Out.{isSet, short, answered, storedOut}
@@ -25,7 +25,7 @@ pub record FieldReadCall (memory : List ℕ) (address size signed : ℕ) (out : 
 -- `write`: there is no output array, so that no argument is bad
 pub record FieldWriteCall (memory : List ℕ) (address size value : ℕ)
     (answer : ℕ) (memory′ : List ℕ) : Type 0 where
-  pub answers : answer ≡ refusal (length memory) address size
+  pub answers : answer ≡ fieldRefusal (length memory) address size
   pub memory-is : memory′ ≡ fieldWritten memory address size value
 
 -- `cycles`: out has those of a read, then those of a write

@@ -21,11 +21,11 @@ badPixel s out = short pixelResultCount out || badSettings s
 abbrev pub pixelResults : ℕ → Bool → Bool → ℕ → List ℕ
 pixelResults visited v request last = visited ∷ flagNumber v ∷ flagNumber request ∷ last ∷ []
 
-abbrev pub pixtResults : PixtResult → List ℕ
-pixtResults r = pixelResults (r .visited) (r .v) (r .request) (r .value)
+abbrev pub pixtNumbers : PixtResult → List ℕ
+pixtNumbers r = pixelResults (r .visited) (r .v) (r .request) (r .value)
 
-abbrev pub dravResults : DravResult → List ℕ
-dravResults r = pixelResults (r .visited) (r .v) (r .request) (r .point)
+abbrev pub dravNumbers : DravResult → List ℕ
+dravNumbers r = pixelResults (r .visited) (r .v) (r .request) (r .point)
 
 -- the promise of a call on one pixel, over what differs between the five: the answer and the
 -- results that are worked out where no argument is bad, and the memory after the call

@@ -8,14 +8,14 @@ use Rattle.lone.specs.declared.Lone.{Lone}
 use Rattle.lone.specs.Lone.{linearPixel, xySource}
 use Rattle.pixt.specs.Pixt.{pixtFrom}
 use Rattle.c_arrays.specs.Out.{isSet}
-use Rattle.c_lone.specs.Pixel.{pixtResults, PixelCall}
+use Rattle.c_lone.specs.Pixel.{pixtNumbers, PixelCall}
 
 -- at a pixel: it is read, and the memory stays in every case
 abbrev pub PixtFromCall : (memory settings : List ℕ) (at : Lone) (v : ℕ) (out : List ℕ)
     (answer : ℕ) (memory′ out′ : List ℕ) → Type 0
 PixtFromCall memory settings at v out answer memory′ out′ =
     let call = pixtFrom (settingsOf settings) (isSet v) at memory in
-    PixelCall settings out (call .answer) (pixtResults call) memory answer memory′ out′
+    PixelCall settings out (call .answer) (pixtNumbers call) memory answer memory′ out′
 
 -- `pixt_from_linear`
 abbrev pub PixtFromLinearCall : (memory settings : List ℕ) (address v : ℕ) (out : List ℕ)

@@ -7,9 +7,9 @@ use lib.ListN.{length}
 use Rattle.settings.specs.Settings.{settingsOf}
 use Rattle.lone.specs.declared.Lone.{Lone}
 use Rattle.lone.specs.Lone.{linearPixel, xyDestination}
-use Rattle.pixt.specs.Pixt.{drawnAt, lowBits, pixtTo}
+use Rattle.pixt.specs.Pixt.{loneDrawn, lowBits, pixtTo}
 use Rattle.c_arrays.specs.Out.{isSet}
-use Rattle.c_lone.specs.Pixel.{badPixel, pixtResults, PixelCall}
+use Rattle.c_lone.specs.Pixel.{badPixel, pixtNumbers, PixelCall}
 
 -- at a pixel: the register's low bits are drawn there
 abbrev pub PixtToCall : (memory settings : List ℕ) (value : ℕ) (at : Lone) (v : ℕ) (out : List ℕ)
@@ -17,8 +17,8 @@ abbrev pub PixtToCall : (memory settings : List ℕ) (value : ℕ) (at : Lone) (
 PixtToCall memory settings value at v out answer memory′ out′ =
     let s = settingsOf settings in
     let call = pixtTo s (isSet v) at in
-    let after = cond (badPixel settings out) memory (drawnAt s at (lowBits s value) memory) in
-    PixelCall settings out (call .answer) (pixtResults call) after answer memory′ out′
+    let after = cond (badPixel settings out) memory (loneDrawn s at (lowBits s value) memory) in
+    PixelCall settings out (call .answer) (pixtNumbers call) after answer memory′ out′
 
 -- `pixt_to_linear`
 abbrev pub PixtToLinearCall : (memory settings : List ℕ) (value address v : ℕ) (out : List ℕ)

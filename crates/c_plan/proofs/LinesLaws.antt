@@ -7,7 +7,7 @@ use native.Mathlib.Omega.{arith}
 use lib.ListN.{length, set}
 use Rattle.memory.specs.Bits.{noMemory}
 use Rattle.run.specs.declared.Listed.{Listed}
-use Rattle.run.specs.Lines.{badShape, badPoints, linesOf}
+use Rattle.run.specs.Lines.{badShape, badPoints, listedOf}
 use Rattle.run.proofs.AnswerLaws as run
 use Rattle.c_arrays.specs.Out.{badCall, short}
 use Rattle.c_plan.specs.Plan.{badLines, LinesCall}
@@ -41,11 +41,11 @@ module _ (table : List ℕ) (axes draw first count : ℕ) (image memory out byte
     abbrev points : Bool
     points = badPoints axes table first count
 
-    answer-is : r .answer ≡ linesOf (length image) (length memory) (length out) draw axes table first count .answer
+    answer-is : r .answer ≡ listedOf (length image) (length memory) (length out) draw axes table first count .answer
     answer-is = ap (λ (x : Listed). x .answer) (l .0)
 
     pub ends-nine : r .answer ≡ badCall → LinesCall table axes draw first count image memory out bytes badCall image′ memory′ out′ bytes
-    unfolding linesOf
+    unfolding listedOf
     ends-nine h =
         let e = nine shape empty points (sym answer-is ∙ h) in
         let n = run.ends-nine draw axes table first count image memory out e in
@@ -59,7 +59,7 @@ module _ (table : List ℕ) (axes draw first count : ℕ) (image memory out byte
 
     -- nothing is bad where the run does not answer 9
     good : (r .answer ≡ badCall → ⊥) → badLines draw count image memory out bytes ≡ false
-    unfolding linesOf
+    unfolding listedOf
     good h = rw (g, other shape empty points (λ q. h (answer-is ∙ q)))
 
     pub ends-run : (r .answer ≡ badCall → ⊥)

@@ -8,7 +8,7 @@ use lib.ListN.{length}
 use Rattle.plan.specs.declared.Plan.{Plan}
 use Rattle.plan.specs.Table.{room, planOf, tableAfter}
 use Rattle.listing.specs.Listing.{put}
-use Rattle.run.specs.Lines.{badShape, linesOf, written, imageAfter, memoryAfter}
+use Rattle.run.specs.Lines.{badShape, listedOf, written, imageAfter, memoryAfter}
 use Rattle.c_arrays.specs.Out.{short, answered, storedOut}
 
 -- how many results of reading there are: BH_PLAN_RESULTS of the header
@@ -43,7 +43,7 @@ badLines draw count image memory out bytes =
 pub record LinesCall (table : List ℕ) (axes draw first count : ℕ) (image memory out bytes : List ℕ)
     (answer : ℕ) (image′ memory′ out′ bytes′ : List ℕ) : Type 0 where
   pub answers :
-      let call = linesOf (length image) (length memory) (length out) draw axes table first count in
+      let call = listedOf (length image) (length memory) (length out) draw axes table first count in
       answer ≡ answered (badLines draw count image memory out bytes) (call .answer)
   pub image-is :
       let after = imageAfter image (length memory) (length out) draw axes table first count in
@@ -55,5 +55,5 @@ pub record LinesCall (table : List ℕ) (axes draw first count : ℕ) (image mem
       let text = written (length image) (length memory) (length out) draw axes table first count in
       out′ ≡ cond (badLines draw count image memory out bytes) out (put 0 text out)
   pub bytes-is :
-      let call = linesOf (length image) (length memory) (length out) draw axes table first count in
+      let call = listedOf (length image) (length memory) (length out) draw axes table first count in
       bytes′ ≡ storedOut (badLines draw count image memory out bytes) bytes (call .length ∷ [])

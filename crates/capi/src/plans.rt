@@ -2,7 +2,7 @@
 ghost use mathlib.Core.Path.{_≡_};
 ghost use lib.ListN.{length};
 ghost use Rattle.points.specs.Table.{answerFor, outAfter};
-ghost use Rattle.listing.specs.Listing.{putIf, after, heading, refusedLine};
+ghost use Rattle.listing.specs.Listing.{putIf, indexAfter, heading, refusedLine};
 ghost use Rattle.c_plan.specs.Plan.{PlanReadCall, LinesCall};
 
 // Reads a plan; out has the line of the refusal, the memory's words, the drawing, and the numbers
@@ -49,7 +49,7 @@ pub extern "C" fn bh_lines(
 #[no_mangle]
 pub extern "C" fn bh_put_heading(out: &mut [u8], at: usize) -> usize
     ensures { λ r. let o = now (out .entry) in
-        ⌜ (r ≡ after at heading (length o)) × (now (out .exit) ≡ putIf at heading o) ⌝ }
+        ⌜ (r ≡ indexAfter at heading (length o)) × (now (out .exit) ≡ putIf at heading o) ⌝ }
 {
     first_line::put_heading(out, at)
 }
@@ -58,7 +58,7 @@ pub extern "C" fn bh_put_heading(out: &mut [u8], at: usize) -> usize
 #[no_mangle]
 pub extern "C" fn bh_put_refused(out: &mut [u8], at: usize, number: u64, line: u64) -> usize
     ensures { λ r. let o = now (out .entry) in let text = refusedLine number line in
-        ⌜ (r ≡ after at text (length o)) × (now (out .exit) ≡ putIf at text o) ⌝ }
+        ⌜ (r ≡ indexAfter at text (length o)) × (now (out .exit) ≡ putIf at text o) ⌝ }
 {
     first_line::put_refused(out, at, number, line)
 }

@@ -19,13 +19,13 @@ use Rattle.plot.specs.declared.Drawing.{Drawing}
 use Rattle.operation.specs.declared.Operation.{Operation}
 use Rattle.drawing.specs.declared.Outcome.{Outcome}
 use Rattle.operation.specs.Operation.{sourceOf, copies}
-use Rattle.arrays.specs.Array.{rectangleOf, part, vAfter, drawingFor}
+use Rattle.arrays.specs.Array.{rectangleOf, clippedArray, vAfter, drawingFor}
 use Rattle.array_refusal.specs.Refusal.{refusal}
 
 -- a refused call returns its number, no request, zero for visited, and settings, place, V and
 -- registers as given
-abbrev pub refused : Settings → ℕ → Bool → ℕ → Outcome
-refused s place v answer =
+abbrev pub refusedCall : Settings → ℕ → Bool → ℕ → Outcome
+refusedCall s place v answer =
     record {
       answer = answer;
       place = place;
@@ -80,9 +80,9 @@ visitedBy op s place budget = visitedFrom (drawingFor op s) place budget
 unfoldable pub outcome : Operation → Settings → ℕ → Bool → ℕ → ℕ → Outcome
 outcome op s place v budget words =
     cond (eqb (refusal op s place words) 0)
-    (outcomeAt op s (part op s) (drawingFor op s) (vAfter op s v)
+    (outcomeAt op s (clippedArray op s) (drawingFor op s) (vAfter op s v)
     (place + visitedBy op s place budget) (visitedBy op s place budget))
-    (refused s place v (refusal op s place words))
+    (refusedCall s place v (refusal op s place words))
 
 -- the memory after a call
 unfoldable pub drawn : Operation → Settings → ℕ → ℕ → List ℕ → List ℕ

@@ -6,7 +6,7 @@ ghost use lib.ListN.{length};
 ghost use Prim.Native.Nat.{_+_, _≤_};
 ghost use Rattle.plot.specs.Drawing.{pixels};
 ghost use Rattle.operation.specs.Operation.{sourceOf, copies};
-ghost use Rattle.drawing.specs.Draw.{refused, commonOf, doneSome, rowAfter};
+ghost use Rattle.drawing.specs.Draw.{refusedCall, commonOf, doneSome, rowAfter};
 ghost use Rattle.drawing.specs.Draw.{outcomeAt, outcome, drawn};
 use operation::Operation;
 use plot::Drawing;
@@ -30,7 +30,7 @@ pub struct Outcome {
 
 // A refused call.
 fn refused(s: Settings, place: u64, v: bool, answer: u32) -> Outcome
-    ensures { λ r. ⌜ r ≡ refused s place v answer ⌝ }
+    ensures { λ r. ⌜ r ≡ refusedCall s place v answer ⌝ }
 {
     Outcome {
         answer,
@@ -156,7 +156,7 @@ pub fn draw(
         ⌜ (r ≡ outcome op s place v budget (length m))
         × (now (memory .exit) ≡ drawn op s place budget m) ⌝ }
 {
-    let c = arrays::part_of(op, s);
+    let c = arrays::clipped_array(op, s);
     let d = arrays::drawing_of(op, s, c);
     let answer = array_refusal::refusal_of(op, s, c, d, place, memory.len());
     if answer != 0 {

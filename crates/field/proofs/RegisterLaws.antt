@@ -9,7 +9,7 @@ use native.Mathlib.Omega.{arith}
 use borrow.Author.Tests.{lt-ltb, le-ltb, eqb-true, eqb-false}
 use lib.Dec.{eqb}
 use lib.Pow.{pow-add, pow-mono}
-use Rattle.memory.specs.Bits.{bitOf, bitAt, number}
+use Rattle.memory.specs.Bits.{bitOf, bitAt, bitsNumber}
 use Rattle.memory.proofs.NumberLaws.{number-add, number-ext, number-same, number-lt, bit-number}
 use Rattle.memory.proofs.MemoryLaws.{bitAt-lt}
 use Rattle.field.specs.Field.{registerBit, register}
@@ -17,17 +17,17 @@ use Rattle.field.specs.Field.{registerBit, register}
 module _ (m : List ℕ) (a n : ℕ) (p : 0 < n) (h : n ≤ 32) where
   -- the upper bits are all t
   filled : (signed : Bool) (t : ℕ) → cond signed (bitAt m (a + n - 1)) 0 ≡ t
-      → register m a n signed + t * 2 ^ n ≡ number (bitAt m) a n + t * 2 ^ 32
+      → register m a n signed + t * 2 ^ n ≡ bitsNumber (bitAt m) a n + t * 2 ^ 32
   unfolding register
   filled signed t e =
       let w : n + (32 - n) ≡ 32 = omega arith in
       let f : ℕ → ℕ = registerBit m a n signed in
-      let low : number f 0 n ≡ number (bitAt m) a n = number-ext f (bitAt m) 0 a n (λ j hj. rw (zero-add j, lt-ltb j n hj)) in
-      let high : number f (0 + n) (32 - n) + t ≡ t * 2 ^ (32 - n) =
+      let low : bitsNumber f 0 n ≡ bitsNumber (bitAt m) a n = number-ext f (bitAt m) 0 a n (λ j hj. rw (zero-add j, lt-ltb j n hj)) in
+      let high : bitsNumber f (0 + n) (32 - n) + t ≡ t * 2 ^ (32 - n) =
       number-same f t (0 + n) (32 - n) (λ b hb. rw (le-ltb b n (omega arith)) e) in
-      ap (λ (k : ℕ). number f 0 k + t * 2 ^ n) (sym w)
+      ap (λ (k : ℕ). bitsNumber f 0 k + t * 2 ^ n) (sym w)
       ∙ ap (λ (x : ℕ). x + t * 2 ^ n) (number-add f 0 n (32 - n))
-      ∙ joined (number f 0 n) (2 ^ n) (number f (0 + n) (32 - n)) (t * 2 ^ (32 - n)) high
+      ∙ joined (bitsNumber f 0 n) (2 ^ n) (bitsNumber f (0 + n) (32 - n)) (t * 2 ^ (32 - n)) high
       ∙ ap₂ _+_ low (regroup (2 ^ n) (2 ^ (32 - n)) ∙ ap (λ (x : ℕ). t * x) (sym (pow-add 2 n (32 - n)) ∙ ap (λ (k : ℕ). 2 ^ k) w))
     where
       joined : (x q y z : ℕ) → y + t ≡ z → x + q * y + t * q ≡ x + q * z
@@ -36,30 +36,30 @@ module _ (m : List ℕ) (a n : ℕ) (p : 0 < n) (h : n ≤ 32) where
       regroup : (q r : ℕ) → q * (t * r) ≡ t * (q * r)
       regroup q r = mul-left-comm q t r
 
-  pub register-zero : (signed : Bool) → cond signed (bitAt m (a + n - 1)) 0 ≡ 0 → register m a n signed ≡ number (bitAt m) a n
+  pub register-zero : (signed : Bool) → cond signed (bitAt m (a + n - 1)) 0 ≡ 0 → register m a n signed ≡ bitsNumber (bitAt m) a n
   register-zero signed e = omega (arith, filled signed 0 e)
 
-  pub register-sign : bitAt m (a + n - 1) ≡ 1 → register m a n true ≡ number (bitAt m) a n + (2 ^ 32 - 2 ^ n)
+  pub register-sign : bitAt m (a + n - 1) ≡ 1 → register m a n true ≡ bitsNumber (bitAt m) a n + (2 ^ 32 - 2 ^ n)
   register-sign e = omega (arith, filled true 1 e, pow-mono h)
 
   -- by the code's test, on the top bit as it finds it
   module _ (t : ℕ) (top : t ≡ bitAt m (a + n - 1)) where
-    pub register-taken : (signed : Bool) → (signed && eqb t 1) ≡ true → register m a n signed ≡ number (bitAt m) a n + (2 ^ 32 - 2 ^ n)
+    pub register-taken : (signed : Bool) → (signed && eqb t 1) ≡ true → register m a n signed ≡ bitsNumber (bitAt m) a n + (2 ^ 32 - 2 ^ n)
     register-taken true e = register-sign (sym top ∙ eqb-true t 1 e)
     register-taken false e = cc
 
-    pub register-left : (signed : Bool) → (signed && eqb t 1) ≡ false → register m a n signed ≡ number (bitAt m) a n
+    pub register-left : (signed : Bool) → (signed && eqb t 1) ≡ false → register m a n signed ≡ bitsNumber (bitAt m) a n
     register-left true e =
         let z : t ≡ 1 → ⊥ = eqb-false t 1 e in
         register-zero true (omega (arith, bitAt-lt m (a + n - 1)))
     register-left false e = register-zero false refl
 
   -- the top bit of the field's number
-  pub top-bit : number (bitAt m) a n / 2 ^ (n - 1) % 2 ≡ bitAt m (a + n - 1)
+  pub top-bit : bitsNumber (bitAt m) a n / 2 ^ (n - 1) % 2 ≡ bitAt m (a + n - 1)
   unfolding bitOf
   top-bit =
       let o : a + (n - 1) ≡ a + n - 1 = omega arith in
       bit-number (bitAt m) (bitAt-lt m) a n (n - 1) (omega arith) ∙ ap (bitAt m) o
 
-  pub field-lt : number (bitAt m) a n < 2 ^ n
+  pub field-lt : bitsNumber (bitAt m) a n < 2 ^ n
   field-lt = number-lt (bitAt m) (bitAt-lt m) a n

@@ -7,14 +7,14 @@ use native.Mathlib.Nat.{add-assoc, lt-of-lt-of-le, mod-lt}
 use native.Mathlib.Omega.{arith}
 use lib.ListN.{length, getD, set}
 use lib.Pow.{pow-pos, pow-mono, shl-exact}
-use Rattle.memory.specs.Bits.{Memory, bitAt, number, withBits, withField}
+use Rattle.memory.specs.Bits.{Memory, bitAt, bitsNumber, withBits, withField}
 use Rattle.memory.proofs.NumberLaws.{number-add, number-lt, number-part}
 use Rattle.memory.proofs.MemoryLaws.{bitAt-lt, word-number}
 use Rattle.memory.proofs.FieldLaws.{memory-withField, set-withField, withField-add, withField-window}
 
 -- the k words from word i on
 abbrev pub windowOf : List ℕ → ℕ → ℕ → ℕ
-windowOf m i k = number (bitAt m) (16 * i) (16 * k)
+windowOf m i k = bitsNumber (bitAt m) (16 * i) (16 * k)
 
 module _ {n : ℕ} {m : List ℕ} (g : Memory n m) where
   -- one word, and more after it
@@ -25,8 +25,8 @@ module _ {n : ℕ} {m : List ℕ} (g : Memory n m) where
   window-more i k =
       let e : 16 * (1 + k) ≡ 16 + 16 * k = omega arith in
       let f : 16 * i + 16 ≡ 16 * (i + 1) = omega arith in
-      ap (number (bitAt m) (16 * i)) e ∙ number-add (bitAt m) (16 * i) 16 (16 * k)
-      ∙ ap₂ (λ (x y : ℕ). x + 65536 * y) (word-number g i) (ap (λ (x : ℕ). number (bitAt m) x (16 * k)) f)
+      ap (bitsNumber (bitAt m) (16 * i)) e ∙ number-add (bitAt m) (16 * i) 16 (16 * k)
+      ∙ ap₂ (λ (x y : ℕ). x + 65536 * y) (word-number g i) (ap (λ (x : ℕ). bitsNumber (bitAt m) x (16 * k)) f)
 
   pub window-two : (i : ℕ) → windowOf m i 2 ≡ getD m i 0 + 65536 * getD m (i + 1) 0
   window-two i = window-more i 1 ∙ ap (λ (x : ℕ). getD m i 0 + 65536 * x) (window-one (i + 1))
@@ -59,7 +59,7 @@ module _ {n : ℕ} {m : List ℕ} (g : Memory n m) where
 
 -- ---- a field of n bits from bit s on of k words
 module _ (m : List ℕ) (i k s n : ℕ) (fits : s + n ≤ 16 * k) where
-  pub field-read : number (bitAt m) (16 * i + s) n ≡ windowOf m i k / 2 ^ s % 2 ^ n
+  pub field-read : bitsNumber (bitAt m) (16 * i + s) n ≡ windowOf m i k / 2 ^ s % 2 ^ n
   field-read = number-part (bitAt m) (bitAt-lt m) (16 * i) (16 * k) s n fits
 
   pub field-written : (x : ℕ) {words : ℕ} → Memory words m → i + k ≤ words

@@ -5,9 +5,9 @@ use mathlib.Core.List.{List}
 use Prim.Native.Nat.{ℕ, _+_, _-_}
 use lib.Dec.{eqb, ltb}
 use lib.ListN.{length}
-use Rattle.memory.specs.Bits.{bitAt, number, withField}
+use Rattle.memory.specs.Bits.{bitAt, bitsNumber, withField}
 use Rattle.field_refusal.specs.Size.{meant}
-unfoldable pub use Rattle.field_refusal.specs.Refusal.{refusal}
+unfoldable pub use Rattle.field_refusal.specs.Refusal.{fieldRefusal}
 use Rattle.field.specs.declared.FieldRead.{FieldRead}
 
 -- bit j of the register after a read: the field holds bits a to a+n-1, lowest first, and the upper
@@ -18,18 +18,18 @@ registerBit m a n signed j =
 
 -- the register of 32 bits after a read
 unfoldable pub register : List ℕ → ℕ → ℕ → Bool → ℕ
-register m a n signed = number (registerBit m a n signed) 0 32
+register m a n signed = bitsNumber (registerBit m a n signed) 0 32
 
 -- Of a size that is given, and so of the bits that it means
 
 -- what a read hands back; the memory stays
 unfoldable pub fieldRead : List ℕ → ℕ → ℕ → Bool → FieldRead
 fieldRead m a size signed =
-    cond (eqb (refusal (length m) a size) 0)
+    cond (eqb (fieldRefusal (length m) a size) 0)
     (record { answer = 0; value = register m a (meant size) signed })
-    (record { answer = refusal (length m) a size; value = 0 })
+    (record { answer = fieldRefusal (length m) a size; value = 0 })
 
 -- the memory after a write: those bits only are changed
 unfoldable pub fieldWritten : List ℕ → ℕ → ℕ → ℕ → List ℕ
 fieldWritten m a size x =
-    cond (eqb (refusal (length m) a size) 0) (withField m a (meant size) x) m
+    cond (eqb (fieldRefusal (length m) a size) 0) (withField m a (meant size) x) m

@@ -3,8 +3,8 @@
 ghost use mathlib.Core.Path.{_≡_};
 ghost use Prim.Native.Nat.{ℕ, _+_, _*_, _/_, _%_, _^_, _<_, _≤_};
 ghost use lib.ListN.{length};
-ghost use Rattle.memory.specs.Bits.{Memory, bitAt, number, withBits, withField};
-ghost use Rattle.field.specs.Field.{refusal, register, fieldRead, fieldWritten};
+ghost use Rattle.memory.specs.Bits.{Memory, bitAt, bitsNumber, withBits, withField};
+ghost use Rattle.field.specs.Field.{fieldRefusal, register, fieldRead, fieldWritten};
 
 // The answer, 0 or the refusal's number, and the register of 32 bits.
 pub struct FieldRead {
@@ -29,7 +29,7 @@ pub fn read(memory: &mut [u16], address: u32, size: u32, signed: bool) -> FieldR
 // Writes the low bits of a register to a field, and answers 0 or the refusal's number.
 pub fn write(memory: &mut [u16], address: u32, size: u32, value: u32) -> u32
     ensures { λ r. let m = now (memory .entry) in
-        ⌜ (r ≡ refusal (length m) address size)
+        ⌜ (r ≡ fieldRefusal (length m) address size)
         × (now (memory .exit) ≡ fieldWritten m address size value) ⌝ }
 {
     let answer = field_refusal::refusal_of(memory.len(), address, size);
@@ -58,7 +58,7 @@ fn read_register(memory: &[u16], address: u64, size: u64, signed: bool) -> u32
 // there are two: whether one would be enough is not asked, as that test is often guessed wrong.
 fn read_bits(memory: &[u16], address: u64, size: u64) -> u64
     requires { ⌜ (0 < size) × (size ≤ 32) × (address + size ≤ 16 * length (now memory)) ⌝ }
-    ensures { λ r. ⌜ r ≡ number (bitAt (now (memory .entry))) address size ⌝ }
+    ensures { λ r. ⌜ r ≡ bitsNumber (bitAt (now (memory .entry))) address size ⌝ }
 {
     let s = address % 16;
     let at = (address / 16) as usize;
@@ -75,7 +75,7 @@ fn read_bits(memory: &[u16], address: u64, size: u64) -> u64
 fn read_words(memory: &[u16], at: usize, count: u64, s: u64, size: u64) -> u64
     requires { ⌜ (0 < count) × (count ≤ 3) × (at + count ≤ length (now memory)) ⌝ }
     requires { ⌜ (s < 16) × (size ≤ 32) × (s + size ≤ 16 * count) ⌝ }
-    ensures { λ r. ⌜ r ≡ number (bitAt (now (memory .entry))) (16 * at + s) size ⌝ }
+    ensures { λ r. ⌜ r ≡ bitsNumber (bitAt (now (memory .entry))) (16 * at + s) size ⌝ }
 {
     taken(window(memory, at, count), s, size)
 }
@@ -111,7 +111,7 @@ fn write_words(memory: &mut [u16], at: usize, count: u64, s: u64, size: u64, x: 
 // One to three words as one number, the first lowest.
 fn window(memory: &[u16], at: usize, count: u64) -> u64
     requires { ⌜ (0 < count) × (count ≤ 3) × (at + count ≤ length (now memory)) ⌝ }
-    ensures { λ r. ⌜ r ≡ number (bitAt (now (memory .entry))) (16 * at) (16 * count) ⌝ }
+    ensures { λ r. ⌜ r ≡ bitsNumber (bitAt (now (memory .entry))) (16 * at) (16 * count) ⌝ }
 {
     let a = wide(memory[at]);
     if count == 1 {

@@ -8,7 +8,7 @@ use lib.Dec.{eqb, ltb}
 use Rattle.memory.specs.Bits.{noMemory}
 use Rattle.memory.proofs.Tests.{Sized, sized, or-false-left, or-false-right}
 use Rattle.field_refusal.specs.Size.{badSize, meant}
-use Rattle.field_refusal.specs.Refusal.{pastEnd, refusal}
+use Rattle.field_refusal.specs.Refusal.{endsOutside, fieldRefusal}
 
 -- 1 to 32 bits
 pub record GoodBits (n : ℕ) : Type 0 where
@@ -27,11 +27,11 @@ pub record Accepted (words a size : ℕ) : Type 0 where
   pub bits : GoodBits (meant size)
   pub inside : a + meant size ≤ 16 * words
 
-pub accepted : (words a size : ℕ) → refusal words a size ≡ 0 → Accepted words a size
-unfolding refusal
-accepted words a size = go (noMemory words) (badSize size) (pastEnd words a (meant size)) refl refl refl
+pub accepted : (words a size : ℕ) → fieldRefusal words a size ≡ 0 → Accepted words a size
+unfolding fieldRefusal
+accepted words a size = go (noMemory words) (badSize size) (endsOutside words a (meant size)) refl refl refl
   where
-    go : (p q r : Bool) → noMemory words ≡ p → badSize size ≡ q → pastEnd words a (meant size) ≡ r
+    go : (p q r : Bool) → noMemory words ≡ p → badSize size ≡ q → endsOutside words a (meant size) ≡ r
         → _≡_ {A = ℕ} (cond p 10 (cond q 18 (cond r 17 0))) 0 → Accepted words a size
     go true q r ep eq er e = absurd (omega arith)
     go false true r ep eq er e = absurd (omega arith)

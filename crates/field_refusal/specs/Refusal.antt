@@ -6,10 +6,10 @@ use Rattle.memory.specs.Bits.{noMemory}
 use Rattle.field_refusal.specs.Size.{badSize, meant}
 
 -- refusal 17: some bit of a field of n bits has an address of 16 x words or more
-abbrev pub pastEnd : ℕ → ℕ → ℕ → Bool
-pastEnd words a n = leb (16 * words) (a + n - 1)
+abbrev pub endsOutside : ℕ → ℕ → ℕ → Bool
+endsOutside words a n = leb (16 * words) (a + n - 1)
 
 -- a field call checks 10, 18, 17 in that order; 0 where none applies
-unfoldable pub refusal : ℕ → ℕ → ℕ → ℕ
-refusal words a size =
-    cond (noMemory words) 10 (cond (badSize size) 18 (cond (pastEnd words a (meant size)) 17 0))
+unfoldable pub fieldRefusal : ℕ → ℕ → ℕ → ℕ
+fieldRefusal words a size =
+    cond (noMemory words) 10 (cond (badSize size) 18 (cond (endsOutside words a (meant size)) 17 0))

@@ -1,11 +1,11 @@
 // The refusals of a field call: 10, 18 and 17, in that order. No public function has a requires.
 ghost use mathlib.Core.Path.{_≡_};
 ghost use Rattle.field_refusal.specs.Size.{badSize, meant};
-ghost use Rattle.field_refusal.specs.Refusal.{refusal};
+ghost use Rattle.field_refusal.specs.Refusal.{fieldRefusal};
 
 // The refusal's number of a field call, or 0.
 pub fn refusal_of(words: usize, address: u32, size: u32) -> u32
-    ensures { λ r. ⌜ r ≡ refusal words address size ⌝ }
+    ensures { λ r. ⌜ r ≡ fieldRefusal words address size ⌝ }
 {
     if memory::no_memory(words) {
         return 10;

@@ -24,7 +24,7 @@ use Rattle.windows.specs.declared.Rectangle.{Rectangle}
 use Rattle.windows.specs.declared.Clipped.{Clipped}
 use Rattle.settings.specs.declared.Settings.{Settings}
 use Rattle.lone.specs.Lone.{xyDestination}
-use Rattle.pixt.specs.Pixt.{drawnAt}
+use Rattle.pixt.specs.Pixt.{loneDrawn}
 use Rattle.drav.specs.Drav.{dravOf}
 use Rattle.array_refusal.specs.Refusal.{refusal}
 use Rattle.drawing.specs.Draw.{outcome}
@@ -39,25 +39,25 @@ twoAndThree =
     record { name = 0; values = 0 ∷ 1 ∷ [] } ∷ record { name = 1; values = 0 ∷ 1 ∷ 2 ∷ [] } ∷ []
 
 -- the kinds of a run of fetches with CD 0, each over the state that the one before handed back
-abbrev pub kinds : Cache → List ℕ → List Kind
-kinds c [] = []
-kinds c (a ∷ rest) = let f = fetched c a 0 in f .kind ∷ kinds (f .cache) rest
+abbrev pub kindsOf : Cache → List ℕ → List Kind
+kindsOf c [] = []
+kindsOf c (a ∷ rest) = let f = fetched c a 0 in f .kind ∷ kindsOf (f .cache) rest
 
 -- DADDR 004400E4h with DYDX 0014003Ch, and what W=3 keeps of it with
 -- WSTART 004900EBh, WEND 005F0140h
 abbrev pub array : Rectangle
 array = record { x = xOf 0x004400E4; y = yOf 0x004400E4; cols = 0x3C; rows = 0x14 }
 
-abbrev pub clippedArray : Clipped
-clippedArray = clipped 3 array (windowOf 0x004900EB 0x005F0140)
+abbrev pub figureClip : Clipped
+figureClip = clipped 3 array (windowOf 0x004900EB 0x005F0140)
 
 -- its walk, from the start that the figures give
 abbrev pub clippedWalk : Walk
 clippedWalk = record { start = 0x24BAC; pitch = 0x800; step = 4 }
 
 -- W=3, a window from 0,0 to 15,15, PSIZE 4, pitch 64
-abbrev pub windowed : Settings
-windowed =
+abbrev pub dravSettings : Settings
+dravSettings =
     record {
       saddr = 0;
       sptch = 0;
@@ -113,10 +113,10 @@ pub record Figures : Type 0 where
   pub start : xyAddress 0 0x800 4 (xOf 0x004400E4) (yOf 0x004400E4) ≡ 0x22390
   -- the same with the window, W=3: 53 by 15, start 24BACh, V=1; 11,208 words
   -- are enough, 11,207 are not
-  pub clip : clippedArray
+  pub clip : figureClip
       ≡ record { left = 7; above = 5; cols = 53; rows = 15; request = false }
   pub clip-v : (v : Bool) → vUnder 3 array (windowOf 0x004900EB 0x005F0140) v ≡ true
-  pub clip-start : xyAddress 0 0x800 4 (kept array clippedArray .x) (kept array clippedArray .y)
+  pub clip-start : xyAddress 0 0x800 4 (kept array figureClip .x) (kept array figureClip .y)
       ≡ 0x24BAC
   pub clip-enough : leavesMemory 11208 clippedWalk 53 15 ≡ false
   pub clip-short : leavesMemory 11207 clippedWalk 53 15 ≡ true
@@ -138,21 +138,21 @@ pub record Figures : Type 0 where
   pub seed : image 4 1 ≡ 0x2041 ∷ 0x4082 ∷ 0 ∷ 0 ∷ []
   -- axes of 2 and 3 values: point 4 has indices 1 and 1; point 6 gives 24
   pub point : indices twoAndThree 4 ≡ 1 ∷ 1 ∷ []
-  pub point-past : points.refusal twoAndThree 6 ≡ 24
+  pub point-past : points.pointRefusal twoAndThree 6 ≡ 24
   -- DRAV from 0000FFFFh with step 1, W=3, window from 0,0: not drawn, V=1, new point 0
-  pub drav : dravOf windowed false 0x0000FFFF 1 (xyDestination 64 windowed 0x0000FFFF false)
+  pub drav : dravOf dravSettings false 0x0000FFFF 1 (xyDestination 64 dravSettings 0x0000FFFF false)
       ≡ record {
         answer = 0;
         visited = 0;
         v = true;
         request = false;
         point = 0;
-        settings = windowed;
+        settings = dravSettings;
       }
   pub drav-memory : (source : ℕ) (m : List ℕ)
-      → drawnAt windowed (xyDestination 64 windowed 0x0000FFFF false) source m ≡ m
+      → loneDrawn dravSettings (xyDestination 64 dravSettings 0x0000FFFF false) source m ≡ m
   -- fresh cache, fetches at 0, 64, 16, 512, 1024, 1536, 2048, 0: segment, subsegment,
   -- hit, then five segment misses
-  pub fetches : kinds freshCache (0 ∷ 64 ∷ 16 ∷ 512 ∷ 1024 ∷ 1536 ∷ 2048 ∷ 0 ∷ [])
+  pub fetches : kindsOf freshCache (0 ∷ 64 ∷ 16 ∷ 512 ∷ 1024 ∷ 1536 ∷ 2048 ∷ 0 ∷ [])
       ≡ SegmentMiss ∷ SubsegmentMiss ∷ Hit ∷ SegmentMiss ∷ SegmentMiss ∷ SegmentMiss
       ∷ SegmentMiss ∷ SegmentMiss ∷ []

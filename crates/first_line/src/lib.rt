@@ -3,13 +3,13 @@
 // or the index given where it does not fit, and then nothing is written.
 ghost use mathlib.Core.Path.{_≡_};
 ghost use lib.ListN.{length};
-ghost use Rattle.listing.specs.Listing.{putIf, after, heading, refusedLine};
+ghost use Rattle.listing.specs.Listing.{putIf, indexAfter, heading, refusedLine};
 ghost use Rattle.first_line.specs.Names.{namesLine};
 use put_lines::NUMBER;
 
 // The listing's heading.
 pub fn put_heading(out: &mut [u8], at: usize) -> usize
-    ensures { λ r. ⌜ r ≡ after at heading (length (now (out .entry))) ⌝ }
+    ensures { λ r. ⌜ r ≡ indexAfter at heading (length (now (out .entry))) ⌝ }
     ensures { λ r. ⌜ now (out .exit) ≡ putIf at heading (now (out .entry)) ⌝ }
 {
     put_bytes::bytes(out, at, b"point\tanswer\tvisited\tV\tchanged\n")
@@ -19,7 +19,7 @@ pub fn put_heading(out: &mut [u8], at: usize) -> usize
 pub const NAMES: usize = 93;
 
 pub fn put_names(out: &mut [u8], at: usize) -> usize
-    ensures { λ r. ⌜ r ≡ after at namesLine (length (now (out .entry))) ⌝ }
+    ensures { λ r. ⌜ r ≡ indexAfter at namesLine (length (now (out .entry))) ⌝ }
     ensures { λ r. ⌜ now (out .exit) ≡ putIf at namesLine (now (out .entry)) ⌝ }
 {
     let mut text = [0u8; NAMES];
@@ -32,7 +32,7 @@ pub fn put_names(out: &mut [u8], at: usize) -> usize
 
 // The line of a refused plan: its refusal's number, and the line of the plan.
 pub fn put_refused(out: &mut [u8], at: usize, number: u64, line: u64) -> usize
-    ensures { λ r. ⌜ r ≡ after at (refusedLine number line) (length (now (out .entry))) ⌝ }
+    ensures { λ r. ⌜ r ≡ indexAfter at (refusedLine number line) (length (now (out .entry))) ⌝ }
     ensures { λ r. ⌜ now (out .exit) ≡ putIf at (refusedLine number line) (now (out .entry)) ⌝ }
 {
     let mut text = [0u8; 8 + 2 * NUMBER];

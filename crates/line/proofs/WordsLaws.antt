@@ -5,21 +5,21 @@ use Prim.Native.Nat.{ℕ}
 use Rattle.lists.specs.Search.{first}
 use Rattle.ascii.specs.Ascii.{joined}
 use Rattle.names.specs.Names.{names}
-use Rattle.names.specs.Drawings.{drawings}
-use Rattle.text.specs.Text.{before, parts, fieldsOf, same}
+use Rattle.names.specs.Drawings.{drawingNames}
+use Rattle.text.specs.Text.{inFront, parts, fieldsOf, same}
 use Rattle.line.specs.Line.{nameNumber, drawingNumber}
 
 names-joined : fieldsOf (joined names) ≡ names
-unfolding before parts
+unfolding inFront parts
 names-joined = refl
 
-drawings-joined : fieldsOf (joined drawings) ≡ drawings
-unfolding before parts
+drawings-joined : fieldsOf (joined drawingNames) ≡ drawingNames
+unfolding inFront parts
 drawings-joined = refl
 
 module _ (word list : List ℕ) where
   pub nameNumber-joined : list ≡ joined names → first (same word) (fieldsOf list) ≡ nameNumber word
   nameNumber-joined e = ap (λ (l : List ℕ). first (same word) (fieldsOf l)) e ∙ ap (first (same word)) names-joined
 
-  pub drawingNumber-joined : list ≡ joined drawings → first (same word) (fieldsOf list) ≡ drawingNumber word
+  pub drawingNumber-joined : list ≡ joined drawingNames → first (same word) (fieldsOf list) ≡ drawingNumber word
   drawingNumber-joined e = ap (λ (l : List ℕ). first (same word) (fieldsOf l)) e ∙ ap (first (same word)) drawings-joined

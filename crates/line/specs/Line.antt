@@ -7,7 +7,7 @@ use lib.Dec.{leb}
 use lib.ListN.{getD}
 use Rattle.lists.specs.Search.{first}
 use Rattle.names.specs.Names.{names}
-use Rattle.names.specs.Drawings.{drawings, drawingCount}
+use Rattle.names.specs.Drawings.{drawingNames, drawingCount}
 use Rattle.names.specs.Limits.{planWords}
 use Rattle.text.specs.Text.{same}
 use Rattle.tabs.specs.Fields.{fieldValue}
@@ -18,7 +18,7 @@ abbrev pub nameNumber : List ℕ → ℕ
 nameNumber word = first (same word) names
 
 abbrev pub drawingNumber : List ℕ → ℕ
-drawingNumber word = first (same word) drawings
+drawingNumber word = first (same word) drawingNames
 
 -- `memory` and a number 1 to 32768: the number; 0 for any other line
 abbrev pub sizeOf : ℕ → ℕ

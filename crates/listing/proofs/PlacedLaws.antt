@@ -9,7 +9,7 @@ use lib.Dec.{leb}
 use lib.ListN.{length, take, set, length-append}
 use Rattle.io.specs.Digits.{Fewest}
 use Rattle.io.specs.Digits.{digits as io·digits}
-use Rattle.listing.specs.Listing.{decimal, lineLength, put, putIf, after}
+use Rattle.listing.specs.Listing.{decimal, lineLength, put, putIf, indexAfter}
 use Rattle.listing.proofs.DigitsLaws.{decimal-of-fewest, length-of-fewest}
 use Rattle.listing.proofs.ListingLaws.{mostNumber, lineLength-le, length-put, put-put, put-one, take-put}
 
@@ -39,7 +39,7 @@ line-fits-most size at ns h l = le-leb (at + lineLength ns) size (omega (arith, 
 -- Bytes put where they fit
 
 abbrev pub Placed : ℕ → List ℕ → List ℕ → ℕ → List ℕ → Type 0
-Placed at bs out r o = (r ≡ after at bs (length out)) × (o ≡ putIf at bs out)
+Placed at bs out r o = (r ≡ indexAfter at bs (length out)) × (o ≡ putIf at bs out)
 
 pub placed : (at : ℕ) (bs out : List ℕ) → at + length bs ≤ length out → Placed at bs out (at + length bs) (put at bs out)
 placed at bs out h = rw (le-leb _ _ h) (refl, refl)

@@ -39,8 +39,8 @@ put at bytes out = take at out ++ (bytes ++ drop (at + length bytes) out)
 abbrev pub putIf : ℕ → List ℕ → List ℕ → List ℕ
 putIf at bytes out = cond (leb (at + length bytes) (length out)) (put at bytes out) out
 
-abbrev pub after : ℕ → List ℕ → ℕ → ℕ
-after at bytes size = cond (leb (at + length bytes) size) (at + length bytes) at
+abbrev pub indexAfter : ℕ → List ℕ → ℕ → ℕ
+indexAfter at bytes size = cond (leb (at + length bytes) size) (at + length bytes) at
 
 -- the heading
 abbrev pub heading : List ℕ

@@ -17,8 +17,8 @@ use Rattle.lone.specs.declared.Lone.{Lone}
 
 -- the tests of a call: 13 is for XY pixels, 14 for XY destinations; 16 and 17 are given where there
 -- is a pixel to draw or read; there is no place
-abbrev pub testsOf : ℕ → Bool → Bool → Bool → Bool → ℕ → Tests
-testsOf words pitch window some start a =
+abbrev pub loneTests : ℕ → Bool → Bool → Bool → Bool → ℕ → Tests
+loneTests words pitch window some start a =
     record {
       pitch = pitch;
       window = window;
@@ -28,15 +28,15 @@ testsOf words pitch window some start a =
     }
 
 -- the lowest refusal number that applies, or 0
-abbrev pub refusal : ℕ → Settings → Bool → Bool → Bool → Bool → ℕ → ℕ
-refusal words s pitch window some start a =
-    lowest words s (testsOf words pitch window some start a)
+abbrev pub loneRefusal : ℕ → Settings → Bool → Bool → Bool → Bool → ℕ → ℕ
+loneRefusal words s pitch window some start a =
+    lowest words s (loneTests words pitch window some start a)
 
 -- a pixel at a linear address: no pitch, no window, V is kept
 unfoldable pub linearPixel : ℕ → Settings → ℕ → Bool → Lone
 linearPixel words s a v =
     record {
-      answer = refusal words s false false true (misaligned (s .psize) a) a;
+      answer = loneRefusal words s false false true (misaligned (s .psize) a) a;
       some = true;
       address = a;
       v = v;
@@ -44,20 +44,20 @@ linearPixel words s a v =
     }
 
 -- the linear address of an XY pixel, with DPTCH
-abbrev pub placeOf : Settings → ℕ → ℕ
-placeOf s xy = xyAddress (s .offset) (s .dptch) (s .psize) (xOf xy) (yOf xy)
+abbrev pub pixelAddress : Settings → ℕ → ℕ
+pixelAddress s xy = xyAddress (s .offset) (s .dptch) (s .psize) (xOf xy) (yOf xy)
 
 -- an XY start has a negative X or Y, or its linear address isn't a multiple of PSIZE
-abbrev pub badStart : Settings → ℕ → Bool
-badStart s xy = negative (xOf xy) || (negative (yOf xy) || misaligned (s .psize) (placeOf s xy))
+abbrev pub badLoneStart : Settings → ℕ → Bool
+badLoneStart s xy = negative (xOf xy) || (negative (yOf xy) || misaligned (s .psize) (pixelAddress s xy))
 
 -- an XY pixel that is read: no window, V is kept
 unfoldable pub xySource : ℕ → Settings → ℕ → Bool → Lone
 xySource words s xy v =
     record {
-      answer = refusal words s (badXYPitch (s .dptch)) false true (badStart s xy) (placeOf s xy);
+      answer = loneRefusal words s (badXYPitch (s .dptch)) false true (badLoneStart s xy) (pixelAddress s xy);
       some = true;
-      address = placeOf s xy;
+      address = pixelAddress s xy;
       v = v;
       request = false;
     }
@@ -66,12 +66,12 @@ xySource words s xy v =
 abbrev pub rectangleAt : ℕ → Rectangle
 rectangleAt xy = record { x = xOf xy; y = yOf xy; cols = 1; rows = 1 }
 
-abbrev pub windowed : Settings → ℕ → Clipped
-windowed s xy =
+abbrev pub loneClip : Settings → ℕ → Clipped
+loneClip s xy =
     clipped (windowing (s .control)) (rectangleAt xy) (windowOf (s .wstart) (s .wend))
 
-abbrev pub vAfter : Settings → ℕ → Bool → Bool
-vAfter s xy v =
+abbrev pub loneV : Settings → ℕ → Bool → Bool
+loneV s xy v =
     vUnder (windowing (s .control)) (rectangleAt xy) (windowOf (s .wstart) (s .wend)) v
 
 -- the window lets the pixel be drawn
@@ -83,10 +83,10 @@ unfoldable pub xyDestination : ℕ → Settings → ℕ → Bool → Lone
 xyDestination words s xy v =
     record {
       answer =
-          refusal words s (badXYPitch (s .dptch)) (badWindowOf true s) (shown (windowed s xy))
-          (badStart s xy) (placeOf s xy);
-      some = shown (windowed s xy);
-      address = placeOf s xy;
-      v = vAfter s xy v;
-      request = windowed s xy .request;
+          loneRefusal words s (badXYPitch (s .dptch)) (badWindowOf true s) (shown (loneClip s xy))
+          (badLoneStart s xy) (pixelAddress s xy);
+      some = shown (loneClip s xy);
+      address = pixelAddress s xy;
+      v = loneV s xy v;
+      request = loneClip s xy .request;
     }

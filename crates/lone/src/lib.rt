@@ -2,7 +2,7 @@
 ghost use mathlib.Core.Path.{_≡_};
 ghost use Prim.Native.Nat.{_*_};
 ghost use lib.Dec.{leb};
-ghost use Rattle.lone.specs.Lone.{badStart, placeOf, rectangleAt, windowed, vAfter, refusal};
+ghost use Rattle.lone.specs.Lone.{badLoneStart, pixelAddress, rectangleAt, loneClip, loneV, loneRefusal};
 ghost use Rattle.lone.specs.Lone.{linearPixel, xySource, xyDestination};
 use refusal::Tests;
 use settings::Settings;
@@ -36,7 +36,7 @@ pub fn linear_pixel(words: usize, s: Settings, address: u32, v: bool) -> Lone
 pub fn xy_source(words: usize, s: Settings, xy: u32, v: bool) -> Lone
     ensures { λ r. ⌜ r ≡ xySource words s xy v ⌝ }
 {
-    let address = place_of(s, xy);
+    let address = pixel_address(s, xy);
     let pitch = address::bad_xy_pitch(s.dptch);
     let start = bad_start(s, xy, address);
     let answer = refusal_of(words, s, pitch, false, true, start, address);
@@ -52,7 +52,7 @@ pub fn xy_source(words: usize, s: Settings, xy: u32, v: bool) -> Lone
 pub fn xy_destination(words: usize, s: Settings, xy: u32, v: bool) -> Lone
     ensures { λ r. ⌜ r ≡ xyDestination words s xy v ⌝ }
 {
-    let address = place_of(s, xy);
+    let address = pixel_address(s, xy);
     let pitch = address::bad_xy_pitch(s.dptch);
     let window = refusal::bad_window_of(true, s);
     let c = windowed(s, xy);
@@ -79,7 +79,7 @@ fn refusal_of(
     start: bool,
     address: u32,
 ) -> u32
-    ensures { λ r. ⌜ r ≡ refusal words s pitch window some start address ⌝ }
+    ensures { λ r. ⌜ r ≡ loneRefusal words s pitch window some start address ⌝ }
 {
     let past = past_end(words, address);
     let tests = Tests {
@@ -100,8 +100,8 @@ fn past_end(words: usize, address: u32) -> bool
 }
 
 // The linear address of an XY pixel.
-fn place_of(s: Settings, xy: u32) -> u32
-    ensures { λ r. ⌜ r ≡ placeOf s xy ⌝ }
+fn pixel_address(s: Settings, xy: u32) -> u32
+    ensures { λ r. ⌜ r ≡ pixelAddress s xy ⌝ }
 {
     address::xy_address(
         s.offset,
@@ -114,8 +114,8 @@ fn place_of(s: Settings, xy: u32) -> u32
 
 // Is X or Y negative, or the linear address no multiple of the pixel size?
 fn bad_start(s: Settings, xy: u32, address: u32) -> bool
-    requires { ⌜ address ≡ placeOf s xy ⌝ }
-    ensures { λ r. ⌜ r ≡ badStart s xy ⌝ }
+    requires { ⌜ address ≡ pixelAddress s xy ⌝ }
+    ensures { λ r. ⌜ r ≡ badLoneStart s xy ⌝ }
 {
     address::negative(address::x_of(xy) as u32)
         | (address::negative(address::y_of(xy) as u32) | address::misaligned(s.psize, address))
@@ -135,7 +135,7 @@ fn rectangle_at(xy: u32) -> Rectangle
 
 // What the window lets be drawn of it.
 fn windowed(s: Settings, xy: u32) -> Clipped
-    ensures { λ r. ⌜ r ≡ windowed s xy ⌝ }
+    ensures { λ r. ⌜ r ≡ loneClip s xy ⌝ }
 {
     windows::clip(
         control::windowing(s.control),
@@ -146,7 +146,7 @@ fn windowed(s: Settings, xy: u32) -> Clipped
 
 // V after the call.
 fn v_after(s: Settings, xy: u32, v: bool) -> bool
-    ensures { λ r. ⌜ r ≡ vAfter s xy v ⌝ }
+    ensures { λ r. ⌜ r ≡ loneV s xy v ⌝ }
 {
     windows::v_under(
         control::windowing(s.control),

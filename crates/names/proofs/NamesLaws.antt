@@ -8,9 +8,9 @@ use borrow.Author.Tests.{lt-ltb, le-ltb, lt-leb, le-leb, eqb-true, ltb-true, ltb
 use lib.Dec.{eqb, ltb}
 use lib.ListN.{length, getD, List·getD-map}
 use lib.Pow.{pow-pos}
-use Rattle.names.specs.Names.{Name, name, table, nameCount, defaults, bitsOf, limit, tooLargeFor}
+use Rattle.names.specs.Names.{Name, name, nameTable, nameCount, defaults, bitsOf, limit, tooLargeFor}
 
-pub length-table : length table ≡ nameCount
+pub length-table : length nameTable ≡ nameCount
 length-table = refl
 
 -- A test of all rows, each with its number
@@ -38,7 +38,7 @@ widthOf i = cond (ltb i 10) 32 (cond (ltb i 13) 16 64)
 bitsOf-widthOf : (i : ℕ) → bitsOf i ≡ widthOf i
 bitsOf-widthOf i =
     eqb-true _ _
-    (rowsPass-getD (λ j n. eqb (n .bits) (widthOf j)) table pastTable refl
+    (rowsPass-getD (λ j n. eqb (n .bits) (widthOf j)) nameTable pastTable refl
     (λ j h. rw (le-ltb j 10 (omega arith), le-ltb j 13 (omega arith))) i)
 
 pub limit-wide : (i : ℕ) → i < 10 → 2 ^ 32 ≡ limit i
@@ -69,7 +69,7 @@ tooLargeFor-greatest i greatest value e = go (ltb greatest value) refl
 pub default-lt-limit : (i : ℕ) → getD defaults i 0 < limit i
 unfolding limit
 default-lt-limit i =
-    let row = getD table i pastTable in
-    let e : getD defaults i 0 ≡ row .default = List·getD-map (λ n. n .default) table i pastTable in
-    let test = rowsPass-getD (λ j n. ltb (n .default) (2 ^ n .bits)) table pastTable refl (λ j h. refl) i in
+    let row = getD nameTable i pastTable in
+    let e : getD defaults i 0 ≡ row .default = List·getD-map (λ n. n .default) nameTable i pastTable in
+    let test = rowsPass-getD (λ j n. ltb (n .default) (2 ^ n .bits)) nameTable pastTable refl (λ j h. refl) i in
     rw e (ltb-true (row .default) (2 ^ row .bits) test)

@@ -5,8 +5,8 @@ use Prim.Native.Nat.{ℕ}
 use Rattle.ascii.specs.Ascii.{ascii}
 
 -- in the scope's order: the number of a drawing, from 0, is its place in the table
-abbrev pub drawings : List (List ℕ)
-drawings =
+abbrev pub drawingNames : List (List ℕ)
+drawingNames =
     ascii "FILL L"
     ∷ ascii "FILL XY"
     ∷ ascii "PIXBLT L,L"

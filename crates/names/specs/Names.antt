@@ -18,8 +18,8 @@ abbrev pub name : String → ℕ → ℕ → Name
 name word bits default = record { word = ascii word; bits = bits; default = default }
 
 -- in the scope's order: the number of a name, from 0, is its place in the table
-abbrev pub table : List Name
-table =
+abbrev pub nameTable : List Name
+nameTable =
     name "SADDR" 32 0
     ∷ name "SPTCH" 32 0
     ∷ name "DADDR" 32 0
@@ -64,14 +64,14 @@ seedAt = 13
 
 -- their bytes; their values where nothing is said of them
 abbrev pub names : List (List ℕ)
-names = map (λ n. n .word) table
+names = map (λ n. n .word) nameTable
 
 abbrev pub defaults : List ℕ
-defaults = map (λ n. n .default) table
+defaults = map (λ n. n .default) nameTable
 
 -- the name of a number; one that is none has no bytes, and its values have 64 bits
 abbrev pub nameAt : ℕ → Name
-nameAt number = getD table number (name "" 64 0)
+nameAt number = getD nameTable number (name "" 64 0)
 
 abbrev pub bitsOf : ℕ → ℕ
 bitsOf number = nameAt number .bits

@@ -4,7 +4,7 @@ ghost use mathlib.Core.Path.{_≡_};
 ghost use Prim.Native.Nat.{_+_};
 ghost use Rattle.ascii.specs.Ascii.{joined};
 ghost use Rattle.names.specs.Names.{names, limit};
-ghost use Rattle.names.specs.Drawings.{drawings};
+ghost use Rattle.names.specs.Drawings.{drawingNames};
 
 // How many names there are, and how many settings: all but the last name, which is SEED.
 pub const COUNT: usize = 14;
@@ -43,7 +43,7 @@ pub const SEED: usize = 13;
 // The value of PSIZE where nothing is said of it; that of every other name is 0.
 pub const PSIZE_DEFAULT: u64 = 16;
 
-// How many drawings there are.
+// How many drawingNames there are.
 pub const DRAWING_COUNT: u64 = 8;
 
 // No memory of a plan has more words.
@@ -72,7 +72,7 @@ pub fn list() -> [u8; 86]
 
 // The names of the drawings, with a tab between any two.
 pub fn drawings() -> [u8; 85]
-    ensures { λ r. ⌜ r ≡ joined drawings ⌝ }
+    ensures { λ r. ⌜ r ≡ joined drawingNames ⌝ }
 {
     *b"FILL L\tFILL XY\tPIXBLT L,L\tPIXBLT L,XY\tPIXBLT XY,L\tPIXBLT XY,XY\tPIXBLT B,L\tPIXBLT B,XY"
 }

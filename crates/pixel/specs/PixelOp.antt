@@ -10,8 +10,8 @@ abbrev pub complement : ℕ → ℕ → ℕ
 complement top x = bitXor x top
 
 -- PP 0 to 21, in the scope's order. mod 2^P is mod top + 1
-unfoldable pub operations : ℕ → ℕ → ℕ → List ℕ
-operations top s d =
+unfoldable pub pixelOperations : ℕ → ℕ → ℕ → List ℕ
+pixelOperations top s d =
     -- S; S and D; S and not D; 0
     s ∷ bitAnd s d ∷ bitAnd s (complement top d) ∷ 0
     -- S or not D; S xnor D; not D; S nor D
@@ -29,4 +29,4 @@ operations top s d =
 
 -- the operation PP applied
 unfoldable pub processed : ℕ → ℕ → ℕ → ℕ → ℕ
-processed pp top s d = getD (operations top s d) pp 0
+processed pp top s d = getD (pixelOperations top s d) pp 0

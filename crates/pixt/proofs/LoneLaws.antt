@@ -19,8 +19,8 @@ use Rattle.address.specs.Address.{misaligned}
 use Rattle.settings.specs.declared.Settings.{Settings}
 use Rattle.refusal.proofs.RefusalLaws as table
 use Rattle.lone.specs.declared.Lone.{Lone}
-use Rattle.lone.specs.Lone.{testsOf, refusal, linearPixel, placeOf, badStart, xyDestination}
-use Rattle.pixt.specs.Pixt.{drawnAt, lowBits}
+use Rattle.lone.specs.Lone.{loneTests, loneRefusal, linearPixel, pixelAddress, badLoneStart, xyDestination}
+use Rattle.pixt.specs.Pixt.{loneDrawn, lowBits}
 
 -- ---- a register's bits at a place in a word
 shifted-back : (i p k value : ℕ) → value * 2 ^ k % 2 ^ (i + p + k) / 2 ^ k % 2 ^ p ≡ value % 2 ^ p
@@ -40,10 +40,10 @@ abbrev pub Aligned : Settings → Lone → Type 0
 Aligned s l = (eqb (l .answer) 0 && l .some) ≡ true → (badPixelSize (s .psize) ≡ false) × (misaligned (s .psize) (l .address) ≡ false)
 
 module _ (words : ℕ) (s : Settings) where
-  passes : (pitch window some start : Bool) (a : ℕ) → refusal words s pitch window some start a ≡ 0 → some ≡ true
+  passes : (pitch window some start : Bool) (a : ℕ) → loneRefusal words s pitch window some start a ≡ 0 → some ≡ true
       → (badPixelSize (s .psize) ≡ false) × (start ≡ false)
   passes pitch window some start a e h =
-      let p = table.passes words s (testsOf words pitch window some start a) e in
+      let p = table.passes words s (loneTests words pitch window some start a) e in
       (p .size, sym (ap (λ (b : Bool). b && start) h) ∙ p .start)
 
   pub linearPixel-aligned : (a : ℕ) (v : Bool) → Aligned s (linearPixel words s a v)
@@ -54,13 +54,13 @@ module _ (words : ℕ) (s : Settings) where
   unfolding xyDestination
   xyDestination-aligned xy v e =
       let l : Lone = xyDestination words s xy v in
-      let p = passes _ _ (l .some) (badStart s xy) (placeOf s xy) (eqb-true _ 0 (and-eq-true-iff _ (l .some) .0 e .0)) (and-eq-true-iff (eqb (l .answer) 0) _ .0 e .1) in
+      let p = passes _ _ (l .some) (badLoneStart s xy) (pixelAddress s xy) (eqb-true _ 0 (and-eq-true-iff _ (l .some) .0 e .0)) (and-eq-true-iff (eqb (l .answer) 0) _ .0 e .1) in
       (p .0, or-false-right (negative (yOf xy)) _ (or-false-right (negative (xOf xy)) _ (p .1)))
 
 -- ---- what is drawn from the shifted bits is what is drawn from the register
 module _ (s : Settings) (value : ℕ) (m : List ℕ) where
   drawnAt-shifted : (l : Lone) → Aligned s l
-      → drawnAt s l (pixelOf (topOf (s .psize)) (value * 2 ^ (l .address % 16) % 2 ^ 16) (l .address)) m ≡ drawnAt s l (lowBits s value) m
+      → loneDrawn s l (pixelOf (topOf (s .psize)) (value * 2 ^ (l .address % 16) % 2 ^ 16) (l .address)) m ≡ loneDrawn s l (lowBits s value) m
   drawnAt-shifted l h = go (eqb (l .answer) 0 && l .some) h
     where
       drawn : ℕ → List ℕ
@@ -76,9 +76,9 @@ module _ (s : Settings) (value : ℕ) (m : List ℕ) where
 
   -- the same by the equations that the calls give
   pub drawn-register : {l l′ : Lone} {color : ℕ} {m′ : List ℕ} → l ≡ l′ → Aligned s l′ → color ≡ value * 2 ^ (l .address % 16) % 2 ^ 16
-      → m′ ≡ drawnAt s l (pixelOf (topOf (s .psize)) color (l .address)) m → m′ ≡ drawnAt s l′ (lowBits s value) m
+      → m′ ≡ loneDrawn s l (pixelOf (topOf (s .psize)) color (l .address)) m → m′ ≡ loneDrawn s l′ (lowBits s value) m
   drawn-register {l} {l′} e h k d =
       d
-      ∙ ap (λ (color : ℕ). drawnAt s l (pixelOf (topOf (s .psize)) color (l .address)) m) k
-      ∙ ap (λ (x : Lone). drawnAt s x (pixelOf (topOf (s .psize)) (value * 2 ^ (x .address % 16) % 2 ^ 16) (x .address)) m) e
+      ∙ ap (λ (color : ℕ). loneDrawn s l (pixelOf (topOf (s .psize)) color (l .address)) m) k
+      ∙ ap (λ (x : Lone). loneDrawn s x (pixelOf (topOf (s .psize)) (value * 2 ^ (x .address % 16) % 2 ^ 16) (x .address)) m) e
       ∙ drawnAt-shifted l′ h

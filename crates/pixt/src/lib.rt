@@ -4,7 +4,7 @@ ghost use Prim.Native.Nat.{_*_, _%_, _^_};
 ghost use lib.ListN.{length};
 ghost use Rattle.pixel.specs.Pixel.{topOf, pixelOf};
 ghost use Rattle.lone.specs.Lone.{linearPixel, xySource, xyDestination};
-ghost use Rattle.pixt.specs.Pixt.{refused, visited, drawnAt};
+ghost use Rattle.pixt.specs.Pixt.{refusedPixt, visited, loneDrawn};
 ghost use Rattle.pixt.specs.Pixt.{lowBits, pixtTo, registerValue, pixtFrom};
 use lone::Lone;
 use plot::Drawing;
@@ -32,7 +32,7 @@ pub fn pixt_to_linear(
     v: bool,
 ) -> PixtResult
     ensures { λ r. let m = now (memory .entry) in let at = linearPixel (length m) s address v in
-        ⌜ (r ≡ pixtTo s v at) × (now (memory .exit) ≡ drawnAt s at (lowBits s value) m) ⌝ }
+        ⌜ (r ≡ pixtTo s v at) × (now (memory .exit) ≡ loneDrawn s at (lowBits s value) m) ⌝ }
 {
     let l = lone::linear_pixel(memory.len(), s, address, v);
     draw(memory, s, l, at_place(value, l.address));
@@ -42,7 +42,7 @@ pub fn pixt_to_linear(
 // PIXT register to memory at an XY address.
 pub fn pixt_to_xy(memory: &mut [u16], s: Settings, value: u32, xy: u32, v: bool) -> PixtResult
     ensures { λ r. let m = now (memory .entry) in let at = xyDestination (length m) s xy v in
-        ⌜ (r ≡ pixtTo s v at) × (now (memory .exit) ≡ drawnAt s at (lowBits s value) m) ⌝ }
+        ⌜ (r ≡ pixtTo s v at) × (now (memory .exit) ≡ loneDrawn s at (lowBits s value) m) ⌝ }
 {
     let l = lone::xy_destination(memory.len(), s, xy, v);
     draw(memory, s, l, at_place(value, l.address));
@@ -71,7 +71,7 @@ pub fn pixt_from_xy(memory: &mut [u16], s: Settings, xy: u32, v: bool) -> PixtRe
 // pixel: the engine takes the colour at the pixel's place in its word.
 pub fn draw(memory: &mut [u16], s: Settings, l: Lone, color: u16)
     ensures { λ _. let source = pixelOf (topOf (s .psize)) color (l .address) in
-        ⌜ now (memory .exit) ≡ drawnAt s l source (now (memory .entry)) ⌝ }
+        ⌜ now (memory .exit) ≡ loneDrawn s l source (now (memory .entry)) ⌝ }
 {
     if (l.answer == 0) & l.some {
         let pp = control::processing(s.control);
@@ -161,7 +161,7 @@ fn done_from(memory: &[u16], s: Settings, v: bool, l: Lone) -> PixtResult
 }
 
 fn refused(s: Settings, v: bool, answer: u32) -> PixtResult
-    ensures { λ r. ⌜ r ≡ refused s v answer ⌝ }
+    ensures { λ r. ⌜ r ≡ refusedPixt s v answer ⌝ }
 {
     PixtResult {
         answer,

@@ -16,7 +16,7 @@ use Rattle.line.specs.Words.{memoryWord}
 use Rattle.tabs.specs.Fields.{fieldValue}
 use Rattle.line.specs.Line.{memoryOf, drawOf}
 use Rattle.axis.specs.Axis.{axisRefusal}
-use Rattle.plan.specs.Reading.{Line, kept, Reading, textLimit, axisLines, drawLine, memoryLine, reading}
+use Rattle.plan.specs.Reading.{Line, keptLines, Reading, textLimit, readAxes, readDraw, readMemory, reading}
 use Rattle.lists.proofs.TestLaws.{cond-both}
 use Rattle.plan.proofs.SoundLaws.{reading-sound}
 
@@ -48,8 +48,8 @@ Where P r = r .answer ≡ 0 → P r
 abbrev Keeps : ℕ → ℕ → Reading → Type 0
 Keeps words draw r = (r .words ≡ words) × (r .draw ≡ draw)
 
-axisLines-keeps : (words draw : ℕ) (axes : List Axis) (ls : List Line) → Where (Keeps words draw) (axisLines words draw axes ls)
-unfolding axisLines
+axisLines-keeps : (words draw : ℕ) (axes : List Axis) (ls : List Line) → Where (Keeps words draw) (readAxes words draw axes ls)
+unfolding readAxes
 axisLines-keeps words draw axes [] = λ e. (refl, refl)
 axisLines-keeps words draw axes (l ∷ []) =
     cond-both (Where (Keeps words draw)) (eqb (length (l .bytes)) 0) _ _ (λ q e. (refl, refl)) (λ q e. absurd (omega arith))
@@ -61,8 +61,8 @@ axisLines-keeps words draw axes (l ∷ m ∷ ls) =
 abbrev Draws : ℕ → Reading → Type 0
 Draws words r = (r .words ≡ words) × (r .draw < drawingCount)
 
-drawLine-draws : (words : ℕ) (ls : List Line) → Where (Draws words) (drawLine words ls)
-unfolding drawLine
+drawLine-draws : (words : ℕ) (ls : List Line) → Where (Draws words) (readDraw words ls)
+unfolding readDraw
 drawLine-draws words [] = λ e. absurd (omega arith)
 drawLine-draws words (l ∷ []) = λ e. absurd (omega arith)
 drawLine-draws words (l ∷ m ∷ ls) =
@@ -73,8 +73,8 @@ drawLine-draws words (l ∷ m ∷ ls) =
 abbrev Ranged : Reading → Type 0
 Ranged r = (1 ≤ r .words) × (r .words ≤ planWords) × (r .draw < drawingCount)
 
-memoryLine-ranged : (ls : List Line) → Where Ranged (memoryLine ls)
-unfolding memoryLine
+memoryLine-ranged : (ls : List Line) → Where Ranged (readMemory ls)
+unfolding readMemory
 memoryLine-ranged [] = λ e. absurd (omega arith)
 memoryLine-ranged (l ∷ []) = λ e. absurd (omega arith)
 memoryLine-ranged (l ∷ m ∷ ls) =
@@ -88,7 +88,7 @@ reading-ranged : (text : List ℕ) → Where Ranged (reading text)
 unfolding reading
 reading-ranged text =
     cond-both (Where Ranged) (ltb textLimit (length text)) _ _ (λ q e. absurd (omega arith))
-    (λ q. memoryLine-ranged (kept 1 (linesOf text)))
+    (λ q. memoryLine-ranged (keptLines 1 (linesOf text)))
 
 pub reading-accepted : (text : List ℕ) → reading text .answer ≡ 0 → Accepted (reading text)
 reading-accepted text e =

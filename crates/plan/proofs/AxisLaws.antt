@@ -13,7 +13,7 @@ use Rattle.names.specs.Names.{nameCount}
 use Rattle.points.specs.Axes.{Axis, axisLength, mostAxes, mostValues}
 use Rattle.points.specs.OneToOne.{tooLarge, repeats}
 use Rattle.line.specs.Line.{nameOf}
-use Rattle.axis.specs.Axis.{valuesOf, axisOf, badForm, badName, badValues, tooMany, refusal, axisRefusal}
+use Rattle.axis.specs.Axis.{valuesOf, axisOf, badForm, badName, badValues, tooMany, lineRefusal, axisRefusal}
 
 -- the line's name is known and new, and its values are few, all different and below the name's limit
 pub record Good (came : ℕ → Bool) (axes : ℕ) (fields : List (List ℕ)) : Type 0 where
@@ -32,8 +32,8 @@ some-values (word ∷ []) e = absurd (true≢false e)
 some-values (word ∷ name ∷ []) e = absurd (true≢false e)
 some-values (word ∷ name ∷ v ∷ vs) e = omega arith
 
-pub good : (came : ℕ → Bool) (axes : ℕ) (fields : List (List ℕ)) → refusal came axes fields ≡ 0 → Good came axes fields
-unfolding refusal
+pub good : (came : ℕ → Bool) (axes : ℕ) (fields : List (List ℕ)) → lineRefusal came axes fields ≡ 0 → Good came axes fields
+unfolding lineRefusal
 good came axes fields e =
     let (form, e21) = cond-zero (badForm fields) (λ z. omega arith) e in
     let (named, e22) = cond-zero (badName came (nameOf fields)) (λ z. omega arith) e21 in

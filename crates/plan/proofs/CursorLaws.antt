@@ -13,8 +13,8 @@ use lib.Seq.{getD-drop}
 use Rattle.text.specs.Text.{upTo}
 use Rattle.text.proofs.TextLaws.{part-end-le, parts-before, parts-last}
 use Rattle.plan.specs.declared.Cursor.{Cursor}
-use Rattle.plan.specs.Reading.{Line, skipped, kept}
-use Rattle.plan.specs.Cursor.{lineAt, linesFrom, skippedAt, Place, Reached, Next}
+use Rattle.plan.specs.Reading.{Line, skipped, keptLines}
+use Rattle.plan.specs.Cursor.{lineAt, linesFrom, skippedAt, PositionIn, FoundLine, NextLine}
 use Rattle.plan.proofs.ReadingLaws.{parts-some, kept-some, kept-skip, kept-keep, kept-last}
 
 -- The test of a line
@@ -54,33 +54,33 @@ module _ (text : List ℕ) (at end number : ℕ) (is : end ≡ at + length (line
   pub lines-skip : skippedAt text at end ≡ true → linesFrom text at number ≡ linesFrom text (end + 1) (number + 1)
   lines-skip e =
       let (l, s) = and-eq-true-iff _ _ .0 e in
-      ap (kept number) (parts-before 10 text at end is (ltb-true _ _ l))
+      ap (keptLines number) (parts-before 10 text at end is (ltb-true _ _ l))
       ∙ kept-skip number _ _ (parts-some 10 _) s
       ∙ rw (add-one end, add-one number)
 
   pub lines-keep : end < length text → skippedAt text at end ≡ false
       → linesFrom text at number ≡ record { number = number; bytes = lineAt text at } ∷ linesFrom text (end + 1) (number + 1)
   lines-keep h e =
-      ap (kept number) (parts-before 10 text at end is h)
+      ap (keptLines number) (parts-before 10 text at end is h)
       ∙ kept-keep number _ _ (parts-some 10 _) (rw (lt-ltb _ _ h) at e)
       ∙ rw (add-one end, add-one number)
 
   pub lines-last : length text ≤ end → linesFrom text at number ≡ record { number = number; bytes = drop at text } ∷ []
-  lines-last h = ap (kept number) (parts-last 10 text at end is h) ∙ kept-last number _
+  lines-last h = ap (keptLines number) (parts-last 10 text at end is h) ∙ kept-last number _
 
 -- The next line: from a place on, past a line that is skipped, and where one is not
 
 module _ {text : List ℕ} {from number : ℕ} where
-  pub reached-here : {end : ℕ} → Place text from number → end ≡ from + length (lineAt text from)
-      → Reached text from number (record { at = from; end = end; line = number })
+  pub reached-here : {end : ℕ} → PositionIn text from number → end ≡ from + length (lineAt text from)
+      → FoundLine text from number (record { at = from; end = end; line = number })
   reached-here p e = record { place = p; onwards = omega arith; ends = e; lines = refl }
 
-  module _ {at end line : ℕ} (r : Reached text from number (record { at = at; end = end; line = line })) where
+  module _ {at end line : ℕ} (r : FoundLine text from number (record { at = at; end = end; line = line })) where
     pub end-le : end ≤ length text
     end-le = part-end-le 10 text at end (r .ends) (r .place .within)
 
     pub reached-next : {end′ : ℕ} → skippedAt text at end ≡ true → end′ ≡ end + 1 + length (lineAt text (end + 1))
-        → (end < length text) × Reached text from number (record { at = end + 1; end = end′; line = line + 1 })
+        → (end < length text) × FoundLine text from number (record { at = end + 1; end = end′; line = line + 1 })
     reached-next s e =
         let h : end < length text = ltb-true _ _ (and-eq-true-iff _ _ .0 s .0) in (
           h,
@@ -103,8 +103,8 @@ linesBehind text c = linesFrom text (c .end + 1) (c .line + 1)
 pub some-behind : (text : List ℕ) (c : Cursor) → 0 < length (linesBehind text c)
 some-behind text c = lines-some text (c .end + 1) (c .line + 1)
 
-module _ {text : List ℕ} {from number : ℕ} {c : Cursor} (n : Next text from number c) where
-  pub next-here : Next text (c .at) (c .line) c
+module _ {text : List ℕ} {from number : ℕ} {c : Cursor} (n : NextLine text from number c) where
+  pub next-here : NextLine text (c .at) (c .line) c
   next-here =
       record {
         reached = record { place = n .reached .place; onwards = omega arith; ends = n .reached .ends; lines = refl };
@@ -113,7 +113,7 @@ module _ {text : List ℕ} {from number : ℕ} {c : Cursor} (n : Next text from 
 
   -- a line that is ended: it, and the lines behind it
   module _ (ended : c .end < length text) where
-    pub next-place : Place text (c .end + 1) (c .line + 1)
+    pub next-place : PositionIn text (c .end + 1) (c .line + 1)
     next-place = record { within = omega arith; numbered = omega (arith, n .reached .place .numbered, n .reached .ends) }
 
     pub next-line : {line : List ℕ} → line ≡ lineAt text (c .at) → linesFrom text from number ≡ lineOf c line ∷ linesBehind text c

@@ -7,13 +7,13 @@ use borrow.Author.Tests.{eq-eqb, ne-eqb, lt-ltb, le-ltb}
 use lib.ListN.{length}
 use Rattle.plan.specs.declared.Plan.{Plan}
 use Rattle.plan.specs.Reading.{Reading, textLimit, reading}
-use Rattle.plan.specs.Table.{room, refusedPlan, summary, planOf, stored, tableAfter}
+use Rattle.plan.specs.Table.{room, refusedPlan, summary, planOf, storedAxes, tableAfter}
 use Rattle.plan.specs.Cursor.{readingOf}
 
 -- the table, which a refused call leaves as it was
 
 module _ (text t : List ℕ) where
-  pub tableAfter-accepted : planOf text (length t) .answer ≡ 0 → tableAfter text t ≡ stored (reading text .axes) t
+  pub tableAfter-accepted : planOf text (length t) .answer ≡ 0 → tableAfter text t ≡ storedAxes (reading text .axes) t
   unfolding tableAfter
   tableAfter-accepted e = rw (eq-eqb _ _ e)
 
@@ -55,6 +55,6 @@ module _ (text t : List ℕ) {plan : Plan} where
       pub answered-bad : (plan .answer ≡ 0 → ⊥) → Answered text t plan t
       answered-bad n = answered-refused is n
 
-      pub answered-good : {table : List ℕ} → plan .answer ≡ 0 → table ≡ stored (readingOf text .axes) t → Answered text t plan table
+      pub answered-good : {table : List ℕ} → plan .answer ≡ 0 → table ≡ storedAxes (readingOf text .axes) t → Answered text t plan table
       answered-good z s =
-          (is, s ∙ ap (λ (r : Reading). stored (r .axes) t) (sym reading-is) ∙ sym (tableAfter-accepted text t (rw is at z)))
+          (is, s ∙ ap (λ (r : Reading). storedAxes (r .axes) t) (sym reading-is) ∙ sym (tableAfter-accepted text t (rw is at z)))

@@ -24,7 +24,7 @@ use denote.Struct.Declared.{Declared}
 use denote.Struct.Laws.{Laws}
 use denote.Struct.Rest.{all-own, ownAt, rest, own-open, own-out, own-shut}
 use denote.Struct.Values.{Values}
-use Rattle.plan.specs.Cursor.{Place, Next}
+use Rattle.plan.specs.Cursor.{PositionIn, NextLine}
 use Rattle.plan.specs.declared.Cursor.{Cursor}
 use Rattle.plan.specs.declared.Reader.{Reader}
 use Rattle.plan.proofs.Reader.{the-row, the-type}
@@ -42,10 +42,10 @@ L κs = the-laws (namedLft 1 0 tt κs)
 
 -- the reader is at a place of its text, and its next line is this one
 abbrev pub Placed : Reader → Type 0
-Placed d = Place (now (d .text)) (d .at) (d .line)
+Placed d = PositionIn (now (d .text)) (d .at) (d .line)
 
 abbrev pub NextOf : Reader → Cursor → Type 0
-NextOf d c = Next (now (d .text)) (d .at) (d .line) c
+NextOf d c = NextLine (now (d .text)) (d .at) (d .line) c
 
 -- what a text owns, at its machine value, and what a reader owns
 abbrev pub textVal : RefT (List ℕ) → Val

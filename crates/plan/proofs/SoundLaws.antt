@@ -15,7 +15,7 @@ use Rattle.points.specs.Axes.{Axis, axisLength}
 use Rattle.points.specs.OneToOne.{unknown, sameName, badLength, tooLarge, repeats, Sound}
 use Rattle.line.specs.Line.{memoryOf, drawOf, nameOf}
 use Rattle.axis.specs.Axis.{axisOf, axisRefusal}
-use Rattle.plan.specs.Reading.{Line, kept, Reading, textLimit, axisLines, drawLine, memoryLine, reading}
+use Rattle.plan.specs.Reading.{Line, keptLines, Reading, textLimit, readAxes, readDraw, readMemory, reading}
 use Rattle.plan.proofs.AxisLaws.{GoodOn, good-on}
 
 pub sound-none : Sound []
@@ -45,24 +45,24 @@ module _ {axes : List Axis} {fields : List (List ℕ)} (s : Sound axes) (g : Goo
 abbrev SoundReading : Reading → Type 0
 SoundReading r = Sound (r .axes)
 
-pub axisLines-sound : (words draw : ℕ) (axes : List Axis) (ls : List Line) → Sound axes → Sound (axisLines words draw axes ls .axes)
-unfolding axisLines
+pub axisLines-sound : (words draw : ℕ) (axes : List Axis) (ls : List Line) → Sound axes → Sound (readAxes words draw axes ls .axes)
+unfolding readAxes
 axisLines-sound words draw axes [] s = s
 axisLines-sound words draw axes (l ∷ []) s = cond-both SoundReading (eqb (length (l .bytes)) 0) _ _ (λ e. s) (λ e. sound-none)
 axisLines-sound words draw axes (l ∷ m ∷ ls) s =
     cond-both SoundReading (eqb (axisRefusal axes (fieldsOf (l .bytes))) 0) _ _
     (λ e. axisLines-sound words draw _ (m ∷ ls) (sound-next s (good-on axes _ (eqb-true _ _ e)))) (λ e. sound-none)
 
-drawLine-sound : (words : ℕ) (ls : List Line) → Sound (drawLine words ls .axes)
-unfolding drawLine
+drawLine-sound : (words : ℕ) (ls : List Line) → Sound (readDraw words ls .axes)
+unfolding readDraw
 drawLine-sound words [] = sound-none
 drawLine-sound words (l ∷ []) = sound-none
 drawLine-sound words (l ∷ m ∷ ls) =
     cond-both SoundReading (ltb (drawOf (fieldsOf (l .bytes))) 8) _ _ (λ e. axisLines-sound words _ [] (m ∷ ls) sound-none)
     (λ e. sound-none)
 
-pub memoryLine-sound : (ls : List Line) → Sound (memoryLine ls .axes)
-unfolding memoryLine
+pub memoryLine-sound : (ls : List Line) → Sound (readMemory ls .axes)
+unfolding readMemory
 memoryLine-sound [] = sound-none
 memoryLine-sound (l ∷ []) = sound-none
 memoryLine-sound (l ∷ m ∷ ls) =
@@ -71,4 +71,4 @@ memoryLine-sound (l ∷ m ∷ ls) =
 pub reading-sound : (text : List ℕ) → Sound (reading text .axes)
 unfolding reading
 reading-sound text =
-    cond-both SoundReading (ltb textLimit (length text)) _ _ (λ e. sound-none) (λ e. memoryLine-sound (kept 1 (linesOf text)))
+    cond-both SoundReading (ltb textLimit (length text)) _ _ (λ e. sound-none) (λ e. memoryLine-sound (keptLines 1 (linesOf text)))

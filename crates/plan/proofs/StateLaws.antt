@@ -17,11 +17,11 @@ use Rattle.points.specs.Axes.{Axis, axisLength, mostValues, count}
 use Rattle.points.proofs.PointsLaws.{count-le}
 use Rattle.text.specs.Text.{fieldsOf}
 use Rattle.line.specs.Line.{nameOf}
-use Rattle.axis.specs.Axis.{axisOf, refusal, axisRefusal}
+use Rattle.axis.specs.Axis.{axisOf, lineRefusal, axisRefusal}
 use Rattle.plan.specs.declared.State.{State}
 use Rattle.plan.specs.Table.{acceptedPlan}
 use Rattle.plan.specs.Cursor.{lineAt}
-use Rattle.plan.specs.State.{nothingRead, going, heldRefusal, heldAfter, axesFrom, Holds}
+use Rattle.plan.specs.State.{nothingRead, going, heldRefusal, heldAfter, axesFrom, HoldsAxes}
 use Rattle.plan.proofs.AxisLaws.{good-on}
 use Rattle.plan.proofs.SoundLaws.{sound-none, sound-next}
 
@@ -32,13 +32,13 @@ getD-none zero i = refl
 getD-none (suc n) zero = refl
 getD-none (suc n) (suc i) = getD-none n i
 
-pub holds-none : (text : List ℕ) → Holds text [] nothingRead
+pub holds-none : (text : List ℕ) → HoldsAxes text [] nothingRead
 unfolding any count
 holds-none text =
     record { sound = sound-none; size = refl; seen-is = getD-none nameCount; axes-is = refl; points-is = refl; places = refl; starts-are = refl }
 
 -- with another plan of no axes
-pub holds-going : {text : List ℕ} {s : State} (words draw : ℕ) → Holds text [] s → Holds text [] (going s (acceptedPlan words draw 0 1))
+pub holds-going : {text : List ℕ} {s : State} (words draw : ℕ) → HoldsAxes text [] s → HoldsAxes text [] (going s (acceptedPlan words draw 0 1))
 unfolding count
 holds-going words draw h =
     record {
@@ -53,9 +53,9 @@ holds-going words draw h =
 
 -- The refusal of an axis line
 
-pub heldRefusal-is : {text : List ℕ} {axes : List Axis} {s : State} (fields : List (List ℕ)) → Holds text axes s
+pub heldRefusal-is : {text : List ℕ} {axes : List Axis} {s : State} (fields : List (List ℕ)) → HoldsAxes text axes s
     → heldRefusal s fields ≡ axisRefusal axes fields
-unfolding refusal
+unfolding lineRefusal
 heldRefusal-is fields h = rw (h .seen-is (nameOf fields), h .axes-is)
 
 -- An axis more
@@ -82,8 +82,8 @@ axesFrom-set : (text starts : List ℕ) (n at : ℕ) → n < length starts
 axesFrom-set text starts n at h = rw (add-one n, take-suc-set starts n at h) (map-snoc _ (take n starts) at)
 
 pub holds-next : {text : List ℕ} {axes : List Axis} {s : State} (fields : List (List ℕ)) (at : ℕ) → fields ≡ fieldsOf (lineAt text at)
-    → Holds text axes s → axisRefusal axes fields ≡ 0
-    → Holds text (axes ++ (axisOf fields ∷ [])) (heldAfter s (nameOf fields) (axisLength (axisOf fields)) at)
+    → HoldsAxes text axes s → axisRefusal axes fields ≡ 0
+    → HoldsAxes text (axes ++ (axisOf fields ∷ [])) (heldAfter s (nameOf fields) (axisLength (axisOf fields)) at)
 holds-next {text} {axes} {s} fields at is h e =
     let g = good-on axes fields e in
     record {
@@ -100,5 +100,5 @@ holds-next {text} {axes} {s} fields at is h e =
           (axesFrom-set text (s .starts) (s .plan .axes) at (omega (arith, h .places, h .axes-is, g .room)) ∙ rw (← h .starts-are, ← is));
     }
 
-pub points-le : {text : List ℕ} {axes : List Axis} {s : State} → Holds text axes s → s .plan .points ≤ mostValues ^ s .plan .axes
+pub points-le : {text : List ℕ} {axes : List Axis} {s : State} → HoldsAxes text axes s → s .plan .points ≤ mostValues ^ s .plan .axes
 points-le {axes} h = rw (h .points-is, h .axes-is) (count-le axes (h .sound .lengths))

@@ -11,7 +11,7 @@ use Rattle.points.specs.Axes.{Axis}
 use Rattle.points.specs.Table.{entryOf, tableOf}
 use Rattle.points.proofs.TableLaws.{length-tableOf-le, tableOf-append}
 use Rattle.axis.specs.Axis.{axisOf, storedAt}
-use Rattle.plan.specs.Table.{stored, room as tableRoom}
+use Rattle.plan.specs.Table.{storedAxes, room as tableRoom}
 use Rattle.plan.specs.Cursor.{lineAt, linesFrom, readingOf}
 use Rattle.plan.specs.State.{StartsAt}
 use Rattle.plan.proofs.SoundLaws.{memoryLine-sound}
@@ -22,7 +22,7 @@ pub record AxesStored (text t : List ℕ) (starts : List ℕ) (axes : ℕ) (tabl
   pub room : tableRoom ≤ length t
   pub starts-at : StartsAt text starts axes
   pub few : k ≤ axes
-  pub table-is : table ≡ stored (take k (readingOf text .axes)) t
+  pub table-is : table ≡ storedAxes (take k (readingOf text .axes)) t
   pub used-is : used ≡ length (tableOf (take k (readingOf text .axes)))
 
 module _ {text t starts : List ℕ} {axes : ℕ} where
@@ -93,5 +93,5 @@ module _ {text t starts : List ℕ} {axes : ℕ} where
           }
 
     -- and at last all are
-    pub all-stored : axes ≤ k → table ≡ stored plan-axes t
-    all-stored h = i .table-is ∙ ap (λ (l : List Axis). stored l t) (take-all k plan-axes (omega (arith, h, how-many)))
+    pub all-stored : axes ≤ k → table ≡ storedAxes plan-axes t
+    all-stored h = i .table-is ∙ ap (λ (l : List Axis). storedAxes l t) (take-all k plan-axes (omega (arith, h, how-many)))

@@ -10,7 +10,7 @@ use Rattle.points.specs.Axes.{Axis}
 use Rattle.points.specs.Table.{entryOf, tableOf}
 use Rattle.points.proofs.TableLaws.{tableOf-append}
 use Rattle.axis.specs.Axis.{storedAt}
-use Rattle.plan.specs.Table.{stored}
+use Rattle.plan.specs.Table.{storedAxes}
 
 -- Numbers stored from an index on
 
@@ -42,7 +42,7 @@ storedAt-append xs ys zs h =
 
 -- No axis, and an axis more
 
-pub stored-none : (t : List ℕ) → t ≡ stored [] t
+pub stored-none : (t : List ℕ) → t ≡ storedAxes [] t
 unfolding tableOf
 stored-none t = refl
 
@@ -58,7 +58,7 @@ module _ (axes : List Axis) (a : Axis) where
   length-withAxis = ap length tableOf-withAxis ∙ length-append (tableOf axes) (entryOf a)
 
   pub stored-next : (t : List ℕ) → length (tableOf axes) + length (entryOf a) ≤ length t
-      → storedAt (length (tableOf axes)) (entryOf a) (stored axes t) ≡ stored withAxis t
+      → storedAt (length (tableOf axes)) (entryOf a) (storedAxes axes t) ≡ storedAxes withAxis t
   stored-next t h =
       storedAt-append (tableOf axes) (entryOf a) _ (omega (arith, length-drop (length (tableOf axes)) t))
       ∙ rw (drop-drop, tableOf-withAxis, length-append (tableOf axes) (entryOf a))
@@ -66,5 +66,5 @@ module _ (axes : List Axis) (a : Axis) where
 -- The table keeps its length
 
 module _ (axes : List Axis) (t : List ℕ) where
-  pub length-stored : length (tableOf axes) ≤ length t → length (stored axes t) ≡ length t
+  pub length-stored : length (tableOf axes) ≤ length t → length (storedAxes axes t) ≡ length t
   length-stored h = omega (arith, length-append (tableOf axes) (drop (length (tableOf axes)) t), length-drop (length (tableOf axes)) t)

@@ -16,17 +16,17 @@ use Rattle.plan.specs.declared.Plan.{Plan}
 use Rattle.plan.specs.declared.Cursor.{Cursor}
 use Rattle.plan.specs.declared.State.{State}
 use Rattle.text.proofs.TextLaws.{part-end-le}
-use Rattle.plan.specs.Reading.{Reading, accepted, refusedAt, textLimit}
+use Rattle.plan.specs.Reading.{Reading, acceptedReading, refusedAt, textLimit}
 use Rattle.plan.specs.Table.{refusedPlan, acceptedPlan, summary}
-use Rattle.plan.specs.Cursor.{lineAt, linesFrom, readingOf, Next}
-use Rattle.plan.specs.State.{nothingRead, going, shut, afterMemory, afterDraw, afterEnd, afterAxis, heldRefusal, Reads, Read, After}
+use Rattle.plan.specs.Cursor.{lineAt, linesFrom, readingOf, NextLine}
+use Rattle.plan.specs.State.{nothingRead, going, shut, afterMemory, afterDraw, afterEnd, afterAxis, heldRefusal, LinesRead, PlanRead, LineRead}
 use Rattle.plan.proofs.ReadingLaws.{memory-last, memory-bad, memory-next, draw-last, draw-bad, draw-next, axes-end, axes-last}
 use Rattle.plan.proofs.ReadingLaws.{axes-bad, axes-next}
 use Rattle.plan.proofs.CursorLaws.{lineOf, linesBehind, some-behind, next-line, next-last}
 use Rattle.plan.proofs.StateLaws.{holds-none, holds-going, holds-next, heldRefusal-is}
 
 -- Before the first line
-pub reads-none : (text : List ℕ) → Reads text nothingRead 0 1
+pub reads-none : (text : List ℕ) → LinesRead text nothingRead 0 1
 reads-none text =
     record {
       accepted = refl;
@@ -38,8 +38,8 @@ reads-none text =
 
 -- At the next line that is not skipped
 
-module _ {text : List ℕ} {n m : ℕ} {c : Cursor} (x : Next text n m c) where
-  pub reads-next : {s : State} → Reads text s n m → Reads text s (c .at) (c .line)
+module _ {text : List ℕ} {n m : ℕ} {c : Cursor} (x : NextLine text n m c) where
+  pub reads-next : {s : State} → LinesRead text s n m → LinesRead text s (c .at) (c .line)
   reads-next r =
       let same = x .reached .lines in
       record {
@@ -59,20 +59,20 @@ module _ {text : List ℕ} {n m : ℕ} {c : Cursor} (x : Next text n m c) where
 -- No line is wanted any more
 
 module _ {text : List ℕ} {c : Cursor} {s : State} where
-  pub after-shut : s .wanted ≡ false → Read text s → After text c s
+  pub after-shut : s .wanted ≡ false → PlanRead text s → LineRead text c s
   after-shut e r = record { more = λ t. absurd (true≢false (sym t ∙ e)); done = λ f. r }
 
-  after-going : s .wanted ≡ true → c .end < length text → Reads text s (c .end + 1) (c .line + 1) → After text c s
+  after-going : s .wanted ≡ true → c .end < length text → LinesRead text s (c .end + 1) (c .line + 1) → LineRead text c s
   after-going e h r = record { more = λ t. (h, r); done = λ f. absurd (true≢false (sym e ∙ f)) }
 
 -- a refusal
 read-refused : {text : List ℕ} (s : State) (number line : ℕ) → (number ≡ 0 → ⊥) → readingOf text ≡ refusedAt number line
-    → Read text (shut s (refusedPlan number line))
+    → PlanRead text (shut s (refusedPlan number line))
 read-refused s number line n e = record { plan-is = rw (e, ne-eqb number 0 n); starts-at = λ z. absurd (n z) }
 
-module _ {text : List ℕ} {c : Cursor} {s : State} (n : Next text (c .at) (c .line) c) (r : Reads text s (c .at) (c .line)) where
+module _ {text : List ℕ} {c : Cursor} {s : State} (n : NextLine text (c .at) (c .line) c) (r : LinesRead text s (c .at) (c .line)) where
   after-refused : {number : ℕ} → (number ≡ 0 → ⊥) → readingOf text ≡ refusedAt number (c .line)
-      → After text c (shut s (refusedPlan number (c .line)))
+      → LineRead text c (shut s (refusedPlan number (c .line)))
   after-refused {number} z e = after-shut refl (read-refused s number (c .line) z e)
 
   -- Behind the last line
@@ -104,13 +104,13 @@ module _ {text : List ℕ} {c : Cursor} {s : State} (n : Next text (c .at) (c .l
         words false q = drawn (eqb-false _ _ q) _ refl
 
     -- nothing is
-    end-accepted : (ltb (c .at) (length text) || eqb (s .plan .draw) 8) ≡ false → Read text (shut s (s .plan))
+    end-accepted : (ltb (c .at) (length text) || eqb (s .plan .draw) 8) ≡ false → PlanRead text (shut s (s .plan))
     end-accepted e =
         let (none, q) = or-eq-false (ltb (c .at) (length text)) (eqb (s .plan .draw) 8) e in
         let d = eqb-false (s .plan .draw) 8 q in
         let x = r .axes (λ w. d (r .memory w .0)) d in
         let h = x .holds in
-        let whole : readingOf text ≡ accepted (s .plan .words) (s .plan .draw) (x .axes) =
+        let whole : readingOf text ≡ acceptedReading (s .plan .words) (s .plan .draw) (x .axes) =
         x .ahead ∙ rw rest (axes-end _ _ (x .axes) _ (omega (arith, length-drop (c .at) text, ltb-false (c .at) (length text) none))) in
         record {
           plan-is = rw whole (rw (← h .axes-is, ← h .points-is) (r .accepted));
@@ -122,9 +122,9 @@ module _ {text : List ℕ} {c : Cursor} {s : State} (n : Next text (c .at) (c .l
               };
         }
 
-    pub after-end : After text c (afterEnd s (ltb (c .at) (length text)) (c .line))
+    pub after-end : LineRead text c (afterEnd s (ltb (c .at) (length text)) (c .line))
     after-end =
-        cond-both (After text c) (ltb (c .at) (length text) || eqb (s .plan .draw) 8) _ _
+        cond-both (LineRead text c) (ltb (c .at) (length text) || eqb (s .plan .draw) 8) _ _
         (λ e. after-refused (λ z. omega arith) (end-refused e)) (λ e. after-shut refl (end-accepted e))
 
   -- At a line that is ended, and is this one
@@ -133,11 +133,11 @@ module _ {text : List ℕ} {c : Cursor} {s : State} (n : Next text (c .at) (c .l
     lines : linesFrom text (c .at) (c .line) ≡ lineOf c line ∷ linesBehind text c
     lines = next-line n ended is
 
-    pub after-memory : s .plan .words ≡ 0 → After text c (afterMemory s (memoryOf (fieldsOf line)) (c .line))
+    pub after-memory : s .plan .words ≡ 0 → LineRead text c (afterMemory s (memoryOf (fieldsOf line)) (c .line))
     after-memory w =
         let (d, whole) = r .memory w in
         let m = memoryOf (fieldsOf line) in
-        cond-both (After text c) (eqb m 0) _ _
+        cond-both (LineRead text c) (eqb m 0) _ _
         (λ e. after-refused (λ z. omega arith) (whole ∙ rw lines (memory-bad (lineOf c line) _ (eqb-true _ _ e))))
         (λ e.
         let z = eqb-false m 0 e in
@@ -149,11 +149,11 @@ module _ {text : List ℕ} {c : Cursor} {s : State} (n : Next text (c .at) (c .l
           axes = λ f q. absurd (q refl);
         }))
 
-    pub after-draw : (s .plan .words ≡ 0 → ⊥) → s .plan .draw ≡ 8 → After text c (afterDraw s (drawOf (fieldsOf line)) (c .line))
+    pub after-draw : (s .plan .words ≡ 0 → ⊥) → s .plan .draw ≡ 8 → LineRead text c (afterDraw s (drawOf (fieldsOf line)) (c .line))
     after-draw w d =
         let whole = r .draw w d in
         let k = drawOf (fieldsOf line) in
-        cond-both (After text c) (ltb k 8) _ _
+        cond-both (LineRead text c) (ltb k 8) _ _
         (λ e.
         let less = ltb-true k 8 e in
         after-going refl ended (record {
@@ -171,12 +171,12 @@ module _ {text : List ℕ} {c : Cursor} {s : State} (n : Next text (c .at) (c .l
         }))
         (λ e. after-refused (λ z. omega arith) (whole ∙ rw lines (draw-bad (s .plan .words) (lineOf c line) _ (ltb-false _ _ e))))
 
-    pub after-axis : (s .plan .words ≡ 0 → ⊥) → (s .plan .draw ≡ 8 → ⊥) → After text c (afterAxis s (fieldsOf line) c)
+    pub after-axis : (s .plan .words ≡ 0 → ⊥) → (s .plan .draw ≡ 8 → ⊥) → LineRead text c (afterAxis s (fieldsOf line) c)
     after-axis w d =
         let x = r .axes w d in
         let fields = fieldsOf line in
         let is-refusal = heldRefusal-is fields (x .holds) in
-        cond-both (After text c) (eqb (heldRefusal s fields) 0) _ _
+        cond-both (LineRead text c) (eqb (heldRefusal s fields) 0) _ _
         (λ e.
         let good = sym is-refusal ∙ eqb-true _ _ e in
         after-going refl ended (record {

@@ -23,12 +23,12 @@ skipped [] = true
 skipped (c ∷ cs) = eqb c hash
 
 -- the lines that are not skipped, and last what follows the last line
-unfoldable pub kept : ℕ → List (List ℕ) → List Line
-kept n [] = []
-kept n (rest ∷ []) = record { number = n; bytes = rest } ∷ []
-kept n (l ∷ m ∷ ls) =
-    cond (skipped l) (kept (suc n) (m ∷ ls))
-    (record { number = n; bytes = l } ∷ kept (suc n) (m ∷ ls))
+unfoldable pub keptLines : ℕ → List (List ℕ) → List Line
+keptLines n [] = []
+keptLines n (rest ∷ []) = record { number = n; bytes = rest } ∷ []
+keptLines n (l ∷ m ∷ ls) =
+    cond (skipped l) (keptLines (suc n) (m ∷ ls))
+    (record { number = n; bytes = l } ∷ keptLines (suc n) (m ∷ ls))
 
 -- what is read: 0, or the refusal and its line; the memory's words; the drawing's number; the axes.
 -- A refused plan has none of these.
@@ -39,41 +39,41 @@ pub record Reading : Type 0 where
   pub draw : ℕ
   pub axes : List Axis
 
-abbrev pub accepted : ℕ → ℕ → List Axis → Reading
-accepted words draw axes = record { answer = 0; line = 0; words = words; draw = draw; axes = axes }
+abbrev pub acceptedReading : ℕ → ℕ → List Axis → Reading
+acceptedReading words draw axes = record { answer = 0; line = 0; words = words; draw = draw; axes = axes }
 
 abbrev pub refusedAt : ℕ → ℕ → Reading
 refusedAt number line = record { answer = number; line = line; words = 0; draw = 0; axes = [] }
 
 -- then axis lines, to the end; what follows the last byte 10 is a line that is not ended, where it
 -- is anything
-unfoldable pub axisLines : ℕ → ℕ → List Axis → List Line → Reading
-axisLines words draw axes [] = accepted words draw axes
-axisLines words draw axes (rest ∷ []) =
-    cond (eqb (length (rest .bytes)) 0) (accepted words draw axes) (refusedAt 20 (rest .number))
-axisLines words draw axes (l ∷ m ∷ ls) =
+unfoldable pub readAxes : ℕ → ℕ → List Axis → List Line → Reading
+readAxes words draw axes [] = acceptedReading words draw axes
+readAxes words draw axes (rest ∷ []) =
+    cond (eqb (length (rest .bytes)) 0) (acceptedReading words draw axes) (refusedAt 20 (rest .number))
+readAxes words draw axes (l ∷ m ∷ ls) =
     cond (eqb (axisRefusal axes (fieldsOf (l .bytes))) 0)
-    (axisLines words draw (axes ++ (axisOf (fieldsOf (l .bytes)) ∷ [])) (m ∷ ls))
+    (readAxes words draw (axes ++ (axisOf (fieldsOf (l .bytes)) ∷ [])) (m ∷ ls))
     (refusedAt (axisRefusal axes (fieldsOf (l .bytes))) (l .number))
 
 -- then the draw line; a missing one is 20 at the line after the last one, and one that is not ended
 -- 20 at its own: the same number
-unfoldable pub drawLine : ℕ → List Line → Reading
-drawLine words [] = refusedAt 20 1
-drawLine words (rest ∷ []) = refusedAt 20 (rest .number)
-drawLine words (l ∷ m ∷ ls) =
+unfoldable pub readDraw : ℕ → List Line → Reading
+readDraw words [] = refusedAt 20 1
+readDraw words (rest ∷ []) = refusedAt 20 (rest .number)
+readDraw words (l ∷ m ∷ ls) =
     cond (ltb (drawOf (fieldsOf (l .bytes))) drawingCount)
-    (axisLines words (drawOf (fieldsOf (l .bytes))) [] (m ∷ ls))
+    (readAxes words (drawOf (fieldsOf (l .bytes))) [] (m ∷ ls))
     (refusedAt 20 (l .number))
 
 -- first the memory line
-unfoldable pub memoryLine : List Line → Reading
-memoryLine [] = refusedAt 20 1
-memoryLine (rest ∷ []) = refusedAt 20 (rest .number)
-memoryLine (l ∷ m ∷ ls) =
+unfoldable pub readMemory : List Line → Reading
+readMemory [] = refusedAt 20 1
+readMemory (rest ∷ []) = refusedAt 20 (rest .number)
+readMemory (l ∷ m ∷ ls) =
     cond (eqb (memoryOf (fieldsOf (l .bytes))) 0)
     (refusedAt 20 (l .number))
-    (drawLine (memoryOf (fieldsOf (l .bytes))) (m ∷ ls))
+    (readDraw (memoryOf (fieldsOf (l .bytes))) (m ∷ ls))
 
 -- a text is at most 65,536 bytes, else 20 on line 1
 abbrev pub textLimit : ℕ
@@ -81,4 +81,4 @@ textLimit = 65536
 
 unfoldable pub reading : List ℕ → Reading
 reading text =
-    cond (ltb textLimit (length text)) (refusedAt 20 1) (memoryLine (kept 1 (linesOf text)))
+    cond (ltb textLimit (length text)) (refusedAt 20 1) (readMemory (keptLines 1 (linesOf text)))

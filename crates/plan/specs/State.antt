@@ -12,11 +12,11 @@ use Rattle.points.specs.Axes.{Axis, axisLength, mostAxes, count}
 use Rattle.points.specs.OneToOne.{Sound}
 use Rattle.text.specs.Text.{fieldsOf}
 use Rattle.line.specs.Line.{nameOf}
-use Rattle.axis.specs.Axis.{axisOf, refusal}
+use Rattle.axis.specs.Axis.{axisOf, lineRefusal}
 use Rattle.plan.specs.declared.Plan.{Plan}
 use Rattle.plan.specs.declared.Cursor.{Cursor}
 use Rattle.plan.specs.declared.State.{State}
-use Rattle.plan.specs.Reading.{Line, drawLine, memoryLine, axisLines}
+use Rattle.plan.specs.Reading.{Line, readDraw, readMemory, readAxes}
 use Rattle.plan.specs.Table.{refusedPlan, acceptedPlan, summary}
 use Rattle.plan.specs.Cursor.{lineAt, linesFrom, readingOf}
 
@@ -56,7 +56,7 @@ afterEnd s left line =
 -- An axis line of these fields: its refusal, or an axis more, whose line starts at a place
 
 abbrev pub heldRefusal : State → List (List ℕ) → ℕ
-heldRefusal s fields = refusal (λ name. getD (s .seen) name false) (s .plan .axes) fields
+heldRefusal s fields = lineRefusal (λ name. getD (s .seen) name false) (s .plan .axes) fields
 
 abbrev pub heldAfter : State → ℕ → ℕ → ℕ → State
 heldAfter s name n at =
@@ -85,7 +85,7 @@ pub record StartsAt (text : List ℕ) (starts : List ℕ) (n : ℕ) : Type 0 whe
   pub axes-are : readingOf text .axes ≡ axesFrom text starts n
 
 -- What is held is that of some axes
-pub record Holds (text : List ℕ) (axes : List Axis) (s : State) : Type 0 where
+pub record HoldsAxes (text : List ℕ) (axes : List Axis) (s : State) : Type 0 where
   pub sound : Sound axes
   pub size : length (s .seen) ≡ nameCount
   pub seen-is : (name : ℕ) → getD (s .seen) name false ≡ any (λ (a : Axis). eqb (a .name) name) axes
@@ -97,28 +97,28 @@ pub record Holds (text : List ℕ) (axes : List Axis) (s : State) : Type 0 where
 -- Some axis lines are read
 pub record AxesRead (text : List ℕ) (s : State) (lines : List Line) : Type 0 where
   pub axes : List Axis
-  pub holds : Holds text axes s
-  pub ahead : readingOf text ≡ axisLines (s .plan .words) (s .plan .draw) axes lines
+  pub holds : HoldsAxes text axes s
+  pub ahead : readingOf text ≡ readAxes (s .plan .words) (s .plan .draw) axes lines
 
 -- The lines before a place are read, and another one is wanted there: the memory line, the draw
 -- line or an axis line
-pub record Reads (text : List ℕ) (s : State) (at number : ℕ) : Type 0 where
+pub record LinesRead (text : List ℕ) (s : State) (at number : ℕ) : Type 0 where
   pub accepted : let p = s .plan in p ≡ acceptedPlan (p .words) (p .draw) (p .axes) (p .points)
   pub memory : s .plan .words ≡ 0
-      → (s .plan .draw ≡ drawingCount) × (readingOf text ≡ memoryLine (linesFrom text at number))
+      → (s .plan .draw ≡ drawingCount) × (readingOf text ≡ readMemory (linesFrom text at number))
   pub draw : (s .plan .words ≡ 0 → ⊥) → s .plan .draw ≡ drawingCount
-      → readingOf text ≡ drawLine (s .plan .words) (linesFrom text at number)
-  pub none : s .plan .draw ≡ drawingCount → Holds text [] s
+      → readingOf text ≡ readDraw (s .plan .words) (linesFrom text at number)
+  pub none : s .plan .draw ≡ drawingCount → HoldsAxes text [] s
   pub axes : (s .plan .words ≡ 0 → ⊥) → (s .plan .draw ≡ drawingCount → ⊥)
       → AxesRead text s (linesFrom text at number)
 
 -- All lines that decide are read: the plan of the text, and of an accepted one where its axis lines
 -- start
-pub record Read (text : List ℕ) (s : State) : Type 0 where
+pub record PlanRead (text : List ℕ) (s : State) : Type 0 where
   pub plan-is : s .plan ≡ summary (readingOf text)
   pub starts-at : s .plan .answer ≡ 0 → StartsAt text (s .starts) (s .plan .axes)
 
 -- A line is read: another one is wanted behind it, or none any more
-pub record After (text : List ℕ) (c : Cursor) (s : State) : Type 0 where
-  pub more : s .wanted ≡ true → (c .end < length text) × Reads text s (c .end + 1) (c .line + 1)
-  pub done : s .wanted ≡ false → Read text s
+pub record LineRead (text : List ℕ) (c : Cursor) (s : State) : Type 0 where
+  pub more : s .wanted ≡ true → (c .end < length text) × LinesRead text s (c .end + 1) (c .line + 1)
+  pub done : s .wanted ≡ false → PlanRead text s

@@ -33,9 +33,9 @@ unfoldable pub planOf : List ℕ → ℕ → Plan
 planOf text size = cond (ltb size room) (refusedPlan 9 0) (summary (reading text))
 
 -- the axes at the table's start, and the rest as it was
-abbrev pub stored : List Axis → List ℕ → List ℕ
-stored axes t = tableOf axes ++ drop (length (tableOf axes)) t
+abbrev pub storedAxes : List Axis → List ℕ → List ℕ
+storedAxes axes t = tableOf axes ++ drop (length (tableOf axes)) t
 
 -- a refused call leaves the table as lent
 unfoldable pub tableAfter : List ℕ → List ℕ → List ℕ
-tableAfter text t = cond (eqb (planOf text (length t) .answer) 0) (stored (reading text .axes) t) t
+tableAfter text t = cond (eqb (planOf text (length t) .answer) 0) (storedAxes (reading text .axes) t) t

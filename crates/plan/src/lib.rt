@@ -8,12 +8,12 @@ ghost use Rattle.points.specs.Axes.{mostAxes, mostValues};
 ghost use Rattle.points.specs.Table.{entryOf};
 ghost use Rattle.axis.specs.Axis.{axisOf, storedAt};
 ghost use Rattle.plan.specs.Reading.{textLimit};
-ghost use Rattle.plan.specs.Table.{room, refusedPlan, acceptedPlan, planOf, stored};
+ghost use Rattle.plan.specs.Table.{room, refusedPlan, acceptedPlan, planOf, storedAxes};
 ghost use Rattle.plan.specs.Table.{tableAfter};
-ghost use Rattle.plan.specs.Cursor.{lineAt, skippedAt, Place, Next, readingOf};
+ghost use Rattle.plan.specs.Cursor.{lineAt, skippedAt, PositionIn, NextLine, readingOf};
 ghost use Rattle.plan.specs.State.{nothingRead, shut, going};
 ghost use Rattle.plan.specs.State.{afterMemory, afterDraw, afterAxis, afterEnd, heldAfter};
-ghost use Rattle.plan.specs.State.{StartsAt, Reads, After, Read};
+ghost use Rattle.plan.specs.State.{StartsAt, LinesRead, LineRead, PlanRead};
 // A table with room for the axes of every plan has so many numbers.
 pub const ROOM: usize = 528;
 
@@ -82,7 +82,7 @@ struct State {
 // taken in.
 fn read_lines(text: &[u8]) -> State
     requires { ⌜ length (now text) ≤ textLimit ⌝ }
-    ensures { λ s. ⌜ Read (now (text .entry)) s ⌝ }
+    ensures { λ s. ⌜ PlanRead (now (text .entry)) s ⌝ }
 {
     let mut r = reader_of(text);
     let mut s = nothing_read();
@@ -107,8 +107,8 @@ fn reader_of<'a>(text: &'a [u8]) -> Reader<'a>
 
 // The reader's next line that is not skipped, or what follows the last line.
 fn next<'a>(r: Reader<'a>) -> Cursor
-    requires { ⌜ Place (now (r .text)) (r .at) (r .line) ⌝ }
-    ensures { λ c. ⌜ Next (now (r .entry .text)) (r .entry .at) (r .entry .line) c ⌝ }
+    requires { ⌜ PositionIn (now (r .text)) (r .at) (r .line) ⌝ }
+    ensures { λ c. ⌜ NextLine (now (r .entry .text)) (r .entry .at) (r .entry .line) c ⌝ }
 {
     line_from(r.text, r.at, r.line)
 }
@@ -128,8 +128,8 @@ fn behind<'a>(r: Reader<'a>, c: Cursor) -> Reader<'a>
 
 // The work: the lines from a place on are passed while they are skipped ones.
 fn line_from(text: &[u8], from: usize, number: u64) -> Cursor
-    requires { ⌜ Place (now text) from number ⌝ }
-    ensures { λ r. ⌜ Next (now (text .entry)) from number r ⌝ }
+    requires { ⌜ PositionIn (now text) from number ⌝ }
+    ensures { λ r. ⌜ NextLine (now (text .entry)) from number r ⌝ }
 {
     let mut at = from;
     let mut end = text::part_end(text, from, ascii::LINE_END);
@@ -161,7 +161,7 @@ fn is_skipped(text: &[u8], at: usize, end: usize) -> bool
 fn store_axes(text: &[u8], table: &mut [u64], starts: [usize; 8], axes: u64)
     requires { ⌜ (room ≤ length (now table)) × StartsAt (now text) starts axes ⌝ }
     ensures { λ _. ⌜ now (table .exit)
-        ≡ stored (readingOf (now (text .entry)) .axes) (now (table .entry)) ⌝ }
+        ≡ storedAxes (readingOf (now (text .entry)) .axes) (now (table .entry)) ⌝ }
 {
     let mut used = 0;
     let mut k: u64 = 0;
@@ -203,9 +203,9 @@ fn nothing_read() -> State
 // The next line that is not skipped, or what follows the last line, is taken in.
 fn taken(text: &[u8], c: Cursor, s: State) -> State
     requires { ⌜ (length (now text) ≤ textLimit)
-        × (Next (now text) (c .at) (c .line) c)
-        × Reads (now text) s (c .at) (c .line) ⌝ }
-    ensures { λ r. ⌜ After (now (text .entry)) c r ⌝ }
+        × (NextLine (now text) (c .at) (c .line) c)
+        × LinesRead (now text) s (c .at) (c .line) ⌝ }
+    ensures { λ r. ⌜ LineRead (now (text .entry)) c r ⌝ }
 {
     let at = c.at;
     let end = c.end;

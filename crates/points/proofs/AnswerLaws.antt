@@ -12,7 +12,7 @@ use Rattle.lists.specs.Search.{any}
 use Rattle.lists.proofs.TestLaws.{or-eq-false}
 use Rattle.names.specs.Names.{defaults}
 use Rattle.points.specs.Axes.{Axis, valueAt, mostAxes, count}
-use Rattle.points.specs.Points.{indices, assigned, experiment, refusal}
+use Rattle.points.specs.Points.{indices, assigned, experiment, pointRefusal}
 use Rattle.points.specs.Table.{axesIn, laterIn, holds, pointsIn, refusalIn, answerFor, outAfter, withDefaults}
 use Rattle.points.specs.OneToOne.{unknown, tooLarge}
 use Rattle.points.proofs.StepLaws.{held}
@@ -33,7 +33,7 @@ holding k n t h = go (leb k mostAxes && holds k t) refl h
 refusalIn-test : (k n : ℕ) (t : List ℕ) → refusalIn k t n ≡ cond (ltb n (pointsIn k t)) 0 24
 refusalIn-test k n t = go (leb k mostAxes && holds k t)
   where
-    go : (b : Bool) → cond b (refusal (axesIn k t) n) 24 ≡ cond (ltb n (cond b (count (axesIn k t)) 0)) 0 24
+    go : (b : Bool) → cond b (pointRefusal (axesIn k t) n) 24 ≡ cond (ltb n (cond b (count (axesIn k t)) 0)) 0 24
     go true = refl
     go false = rw (le-ltb n 0 (omega arith))
 

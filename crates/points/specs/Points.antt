@@ -24,5 +24,5 @@ unfoldable pub experiment : List Axis → ℕ → List ℕ
 experiment axes n = assigned axes (indices axes n) defaults
 
 -- 24: a point number isn't below the plan's count
-abbrev pub refusal : List Axis → ℕ → ℕ
-refusal axes n = cond (ltb n (count axes)) 0 24
+abbrev pub pointRefusal : List Axis → ℕ → ℕ
+pointRefusal axes n = cond (ltb n (count axes)) 0 24

@@ -7,7 +7,7 @@ use lib.Dec.{ltb, leb, eqb}
 use lib.ListN.{length, getD, take, drop}
 use Rattle.names.specs.Names.{nameCount, defaults}
 use Rattle.points.specs.Axes.{Axis, axisLength, axisValues, mostAxes, mostValues, count}
-use Rattle.points.specs.Points.{experiment, refusal}
+use Rattle.points.specs.Points.{experiment, pointRefusal}
 use Rattle.points.specs.OneToOne.{tooLarge}
 
 -- an axis's own numbers: its name, its length and its values
@@ -65,7 +65,7 @@ pointsIn k t = cond (leb k mostAxes && holds k t) (count (axesIn k t)) 0
 
 -- 24 also where the table holds no such axes, or more than 8 are asked for
 abbrev pub refusalIn : ℕ → List ℕ → ℕ → ℕ
-refusalIn k t n = cond (leb k mostAxes && holds k t) (refusal (axesIn k t) n) 24
+refusalIn k t n = cond (leb k mostAxes && holds k t) (pointRefusal (axesIn k t) n) 24
 
 -- A point's experiment in a lent list, which may be longer than fourteen values
 

@@ -6,14 +6,14 @@ ghost use mathlib.Core.List.{[], _∷_, _++_};
 ghost use Prim.Native.Nat.{_+_, _≤_};
 ghost use lib.Dec.{leb};
 ghost use lib.ListN.{length};
-ghost use Rattle.listing.specs.Listing.{decimal, put, putIf, after};
+ghost use Rattle.listing.specs.Listing.{decimal, put, putIf, indexAfter};
 
 // A number below 2^64 has at most so many digits.
 pub const DIGITS: usize = 20;
 
 // The decimal number n, and the byte `end`.
 pub fn number(out: &mut [u8], at: usize, n: u64, end: u8) -> usize
-    ensures { λ r. ⌜ r ≡ after at (decimal n ++ (end ∷ [])) (length (now (out .entry))) ⌝ }
+    ensures { λ r. ⌜ r ≡ indexAfter at (decimal n ++ (end ∷ [])) (length (now (out .entry))) ⌝ }
     ensures { λ r. ⌜ now (out .exit) ≡ putIf at (decimal n ++ (end ∷ [])) (now (out .entry)) ⌝ }
 {
     let mut text = [0u8; DIGITS];
@@ -28,7 +28,7 @@ pub fn number(out: &mut [u8], at: usize, n: u64, end: u8) -> usize
 
 // Given bytes.
 pub fn bytes(out: &mut [u8], at: usize, from: &[u8]) -> usize
-    ensures { λ r. ⌜ r ≡ after at (now (from .entry)) (length (now (out .entry))) ⌝ }
+    ensures { λ r. ⌜ r ≡ indexAfter at (now (from .entry)) (length (now (out .entry))) ⌝ }
     ensures { λ r. ⌜ now (out .exit) ≡ putIf at (now (from .entry)) (now (out .entry)) ⌝ }
 {
     if has_room(out.len(), at, from.len()) {

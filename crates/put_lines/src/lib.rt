@@ -4,14 +4,14 @@ ghost use mathlib.Core.Path.{_≡_};
 ghost use Prim.Native.Nat.{_+_, _≤_, _<_};
 ghost use lib.Dec.{leb};
 ghost use lib.ListN.{length};
-ghost use Rattle.listing.specs.Listing.{decimal, numbersLine, lineLength, put, putIf, after};
+ghost use Rattle.listing.specs.Listing.{decimal, numbersLine, lineLength, put, putIf, indexAfter};
 
 // No number with the byte after it is longer.
 pub const NUMBER: usize = put_bytes::DIGITS + 1;
 
 // A line of numbers.
 pub fn numbers(out: &mut [u8], at: usize, ns: &[u64]) -> usize
-    ensures { λ r. ⌜ r ≡ after at (numbersLine (now (ns .entry))) (length (now (out .entry))) ⌝ }
+    ensures { λ r. ⌜ r ≡ indexAfter at (numbersLine (now (ns .entry))) (length (now (out .entry))) ⌝ }
     ensures { λ r.
         ⌜ now (out .exit) ≡ putIf at (numbersLine (now (ns .entry))) (now (out .entry)) ⌝ }
 {

@@ -11,8 +11,8 @@ use Rattle.settings.specs.declared.Settings.{Settings}
 use Rattle.refusal.specs.declared.Tests.{Tests}
 
 -- the table: the lowest number whose test is true, or 0
-abbrev pub table : Bool → Bool → Bool → Tests → ℕ
-table memory size control t =
+abbrev pub refusalTable : Bool → Bool → Bool → Tests → ℕ
+refusalTable memory size control t =
     cond memory 10
     (cond size 11
     (cond control 12
@@ -24,7 +24,7 @@ table memory size control t =
 
 -- the lowest number that applies to a call over this many words with these settings, or 0
 unfoldable pub lowest : ℕ → Settings → Tests → ℕ
-lowest words s t = table (noMemory words) (badPixelSize (s .psize)) (badControl (s .control)) t
+lowest words s t = refusalTable (noMemory words) (badPixelSize (s .psize)) (badControl (s .control)) t
 
 -- 14: W isn't 0, the destination is XY, and the window is bad
 abbrev pub badWindowOf : Bool → Settings → Bool

@@ -1,6 +1,6 @@
 // The refusals 10 to 17 of the calls that take settings.
 ghost use mathlib.Core.Path.{_≡_};
-ghost use Rattle.refusal.specs.Refusal.{table, lowest, badWindowOf};
+ghost use Rattle.refusal.specs.Refusal.{refusalTable, lowest, badWindowOf};
 use settings::Settings;
 
 // What a call tests besides memory, PSIZE and CONTROL: each test is true where its number is given.
@@ -21,12 +21,12 @@ pub fn lowest(words: usize, s: Settings, t: Tests) -> u32
     let memory = memory::no_memory(words);
     let size = pixel::bad_pixel_size(s.psize);
     let control = control::bad_control(s.control);
-    table(memory, size, control, t)
+    refusal_table(memory, size, control, t)
 }
 
 // The lowest number whose test is true, or 0.
-fn table(memory: bool, size: bool, control: bool, t: Tests) -> u32
-    ensures { λ r. ⌜ r ≡ table memory size control t ⌝ }
+fn refusal_table(memory: bool, size: bool, control: bool, t: Tests) -> u32
+    ensures { λ r. ⌜ r ≡ refusalTable memory size control t ⌝ }
 {
     if memory {
         return 10;

@@ -3,7 +3,7 @@ use mathlib.Core.Path.{refl}
 use Rattle.memory.specs.Bits.{bitOf, bitAt}
 use Rattle.memory.specs.Changed.{differing, changedBits}
 use Rattle.image.specs.Image.{stepped}
-use Rattle.pixel.specs.PixelOp.{operations, processed}
+use Rattle.pixel.specs.PixelOp.{pixelOperations, processed}
 use Rattle.pixel.specs.Pixel.{pixelOf, result, pixelAfter, withPixel, wordAfter, plotted}
 use Rattle.address.specs.Address.{xyAddress, badXYPitch}
 use Rattle.windows.specs.Window.{common, clipped, vUnder}
@@ -12,7 +12,7 @@ use Rattle.extent.specs.Extent.{reaches, leavesMemory}
 use Rattle.settings.specs.Settings.{settingsOf}
 use Rattle.row.specs.Row.{sourceAt, drawnAt}
 use Rattle.engine.specs.Engine.{visits}
-use Rattle.arrays.specs.Array.{part, vAfter, destStart, srcStart, drawingOf}
+use Rattle.arrays.specs.Array.{clippedArray, vAfter, destStart, srcStart, drawingOf}
 use Rattle.refusal.specs.Refusal.{lowest}
 use Rattle.array_refusal.specs.Refusal.{refusalOf, refusal}
 use Rattle.drawing.specs.Draw.{outcomeAt, outcome, drawn}
@@ -24,8 +24,8 @@ use Rattle.run.specs.Lines.{pointLines}
 use Rattle.run.specs.Example.{Example}
 
 pub example : Example
-unfolding bitOf bitAt differing changedBits stepped operations processed pixelOf result pixelAfter withPixel wordAfter plotted xyAddress
-    badXYPitch common clipped addressAt addressOf reaches leavesMemory settingsOf sourceAt drawnAt visits part vAfter vUnder destStart srcStart
+unfolding bitOf bitAt differing changedBits stepped pixelOperations processed pixelOf result pixelAfter withPixel wordAfter plotted xyAddress
+    badXYPitch common clipped addressAt addressOf reaches leavesMemory settingsOf sourceAt drawnAt visits clippedArray vAfter vUnder destStart srcStart
     drawingOf lowest refusalOf refusal outcomeAt outcome drawn axisLength valueAt count indices assigned experiment digits numbersLine
     ranOver pointLine pointLines
 example = refl

@@ -12,7 +12,7 @@ use Rattle.memory.specs.Changed.{changedBits, counted}
 use Rattle.memory.proofs.ChangedLaws.{changedBits-same}
 use Rattle.control.specs.Control.{windowing}
 use Rattle.windows.specs.Window.{windowOf}
-use Rattle.windows.specs.Window.{whole as whole·rectangle}
+use Rattle.windows.specs.Window.{unclipped}
 use Rattle.windows.specs.declared.Clipped.{Clipped}
 use Rattle.windows.proofs.WindowLaws.{Fits, clipped-fits}
 use Rattle.settings.specs.declared.Settings.{Settings}
@@ -20,13 +20,13 @@ use Rattle.plot.specs.Drawing.{pixels}
 use Rattle.plot.proofs.DrawingLaws.{pixels-lt}
 use Rattle.operation.specs.declared.Operation.{Operation}
 use Rattle.operation.specs.Operation.{toXY}
-use Rattle.arrays.specs.Array.{rectangleOf, part, drawingOf, drawingFor}
+use Rattle.arrays.specs.Array.{rectangleOf, clippedArray, drawingOf, drawingFor}
 use Rattle.array_refusal.specs.Refusal.{refusal}
 use Rattle.drawing.specs.Draw.{outcomeAt, visitedBy, outcome, drawn}
 use Rattle.points.specs.Points.{experiment}
 use Rattle.points.specs.Table.{axesIn, pointsIn, outAfter}
 use Rattle.points.proofs.AnswerLaws.{answer-done}
-use Rattle.run.specs.Run.{whole, ranOver}
+use Rattle.run.specs.Run.{unlimited, ranOver}
 
 -- the experiment of a point in a list of fourteen
 pub outAfter-fourteen : (k n : ℕ) (t out : List ℕ) → length out ≡ 14 → n < pointsIn k t → outAfter k t n out ≡ experiment (axesIn k t) n
@@ -45,12 +45,12 @@ unfolding ranOver outcome drawn
 ranOver-refused op s m h = rw (ne-eqb _ _ h, changedBits-same m)
 
 -- an array's columns and rows are at most DX and DY
-cols-rows-le : (op : Operation) (s : Settings) → (part op s .cols ≤ s .dydx % 2 ^ 16) × (part op s .rows ≤ s .dydx / 2 ^ 16)
-unfolding part
+cols-rows-le : (op : Operation) (s : Settings) → (clippedArray op s .cols ≤ s .dydx % 2 ^ 16) × (clippedArray op s .rows ≤ s .dydx / 2 ^ 16)
+unfolding clippedArray
 cols-rows-le op s = go (toXY op) _ (clipped-fits (windowing (s .control)) (rectangleOf s) (windowOf (s .wstart) (s .wend)))
   where
     go : (t : Bool) (c : Clipped) → Fits (rectangleOf s) c
-        → let d = cond t c (whole·rectangle (rectangleOf s)) in (d .cols ≤ s .dydx % 2 ^ 16) × (d .rows ≤ s .dydx / 2 ^ 16)
+        → let d = cond t c (unclipped (rectangleOf s)) in (d .cols ≤ s .dydx % 2 ^ 16) × (d .rows ≤ s .dydx / 2 ^ 16)
     go true c f = (f .cols, f .rows)
     go false c f = (omega arith, omega arith)
 
@@ -64,5 +64,5 @@ pub ranOver-done : (op : Operation) (s : Settings) (m : List ℕ) → s .dydx < 
 unfolding ranOver outcome outcomeAt
 ranOver-done op s m h e =
     let n = pixels-lt-pow op s h in
-    let all : visitedBy op s 0 whole ≡ pixels (drawingFor op s) = omega (arith, n) in
+    let all : visitedBy op s 0 unlimited ≡ pixels (drawingFor op s) = omega (arith, n) in
     rw (eq-eqb _ _ e, all) (rw (eq-eqb (0 + pixels (drawingFor op s)) (pixels (drawingFor op s)) (omega arith)), refl)

@@ -15,20 +15,20 @@ use Rattle.operation.specs.declared.Operation.{Operation}
 use Rattle.drawing.specs.Draw.{drawn}
 use Rattle.points.specs.Axes.{Axis}
 use Rattle.points.specs.Points.{experiment}
-use Rattle.listing.specs.Listing.{put, putIf, after}
+use Rattle.listing.specs.Listing.{put, putIf, indexAfter}
 use Rattle.listing.proofs.ListingLaws.{put-put, length-put}
 use Rattle.running.specs.declared.Progress.{Progress}
 use Rattle.run.specs.declared.Ran.{Ran}
 use Rattle.settings.specs.Settings.{settingsOf}
 use Rattle.operation.specs.Operation.{operationOf}
-use Rattle.run.specs.Run.{seedOf, whole, ranOver, lineOf, imageFor, memoryFor, pointLine}
+use Rattle.run.specs.Run.{seedOf, unlimited, ranOver, lineOf, imageFor, memoryFor, pointLine}
 use Rattle.run.specs.Lines.{pointLines, longest, afterLast}
-use Rattle.running.specs.Progress.{Holds, progressed}
+use Rattle.running.specs.Progress.{HoldsImage, progressed}
 use Rattle.run.proofs.LinesLaws.{length-pointLine, length-pointLines, pointLines-next}
 
 -- bytes that fit are put
 pub line-placed : (at : ℕ) (bs bs′ out : List ℕ) → bs ≡ bs′ → at + length bs′ ≤ length out → {r : ℕ} {o : List ℕ}
-    → r ≡ after at bs (length out) → o ≡ putIf at bs out → (r ≡ at + length bs′) × (o ≡ put at bs′ out)
+    → r ≡ indexAfter at bs (length out) → o ≡ putIf at bs out → (r ≡ at + length bs′) × (o ≡ put at bs′ out)
 line-placed at bs bs′ out e h er eo = (er ∙ rw (e, le-leb _ _ h), eo ∙ rw (e, le-leb _ _ h))
 
 -- One point, as the code goes: the experiment, its image, its drawing, its line
@@ -45,7 +45,7 @@ module _ (words draw : ℕ) (axes : List Axis) (point : ℕ) (p : Progress) {s :
   pub line-fits : (out : List ℕ) → p .at + longest ≤ length out → p .at + length (lineOf point ran) ≤ length out
   line-fits out h = rw line-is (omega (arith, length-pointLine words draw axes point))
 
-  pub point-run : (out : List ℕ) {m′ out′ : List ℕ} {at : ℕ} → m′ ≡ drawn op s 0 whole m → at ≡ p .at + length (lineOf point ran)
+  pub point-run : (out : List ℕ) {m′ out′ : List ℕ} {at : ℕ} → m′ ≡ drawn op s 0 unlimited m → at ≡ p .at + length (lineOf point ran)
       → out′ ≡ put (p .at) (lineOf point ran) out
       → (record { made = true; seed = seed; at = at } ≡ progressed words draw axes point p)
       × ((m ≡ imageFor words (experiment axes point))
@@ -63,7 +63,7 @@ module _ (draw : ℕ) (axes : List Axis) (first k : ℕ) (image₀ memory₀ out
   -- i of them are run
   pub record RunTo (p : Progress) (image memory out : List ℕ) (i : ℕ) : Type 0 where
     pub few : i ≤ k
-    pub held : Holds (p .made) (p .seed) image
+    pub held : HoldsImage (p .made) (p .seed) image
     pub imageSize : length image ≡ length image₀
     pub memorySize : length memory ≡ length memory₀
     pub outSize : length out ≡ length out₀

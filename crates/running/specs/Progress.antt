@@ -12,8 +12,8 @@ use Rattle.running.specs.declared.Progress.{Progress}
 use Rattle.run.specs.Run.{seedOf, pointLine}
 
 -- where an image was made, a memory holds that of the seed
-abbrev pub Holds : Bool → ℕ → List ℕ → Type 0
-Holds made seed m = made ≡ true → m ≡ image (length m) seed
+abbrev pub HoldsImage : Bool → ℕ → List ℕ → Type 0
+HoldsImage made seed m = made ≡ true → m ≡ image (length m) seed
 
 -- after a point
 abbrev pub progressed : ℕ → ℕ → List Axis → ℕ → Progress → Progress

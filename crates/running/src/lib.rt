@@ -10,11 +10,11 @@ ghost use Rattle.drawing.specs.Draw.{drawn};
 ghost use Rattle.points.specs.Points.{experiment};
 ghost use Rattle.points.specs.Table.{axesIn, pointsIn};
 ghost use Rattle.listing.specs.Listing.{put};
-ghost use Rattle.run.specs.Run.{seedOf, whole, ranOver, bit, lineOf, imageFor, memoryFor};
+ghost use Rattle.run.specs.Run.{seedOf, unlimited, ranOver, bit, lineOf, imageFor, memoryFor};
 ghost use Rattle.run.specs.Run.{pointLine};
-ghost use Rattle.run.specs.Lines.{pointLines, longest, afterLast, endsPast, linesOf, written};
+ghost use Rattle.run.specs.Lines.{pointLines, longest, afterLast, endsPast, listedOf, written};
 ghost use Rattle.run.specs.Lines.{imageAfter, memoryAfter};
-ghost use Rattle.running.specs.Progress.{Holds, progressed};
+ghost use Rattle.running.specs.Progress.{HoldsImage, progressed};
 use operation::Operation;
 use run::Listed;
 use run::Ran;
@@ -34,7 +34,7 @@ fn copy(from: &[u16], to: &mut [u16])
 
 // The image of a seed, made where the memory does not hold it already.
 fn prepare(memory: &mut [u16], seed: u64, made: bool, held: u64)
-    requires { ⌜ (noMemory (length (now memory)) ≡ false) × Holds made held (now memory) ⌝ }
+    requires { ⌜ (noMemory (length (now memory)) ≡ false) × HoldsImage made held (now memory) ⌝ }
     ensures { λ _. ⌜ now (memory .exit) ≡ image (length (now (memory .entry))) seed ⌝ }
 {
     if made & (seed == held) {
@@ -48,7 +48,7 @@ fn run_over(image: &[u16], memory: &mut [u16], op: Operation, s: Settings) -> Ra
     requires { ⌜ (length (now image) ≡ length (now memory))
         × (noMemory (length (now image)) ≡ false) ⌝ }
     ensures { λ r. ⌜ (r ≡ ranOver op s (now (image .entry)))
-        × (now (memory .exit) ≡ drawn op s 0 whole (now (image .entry))) ⌝ }
+        × (now (memory .exit) ≡ drawn op s 0 unlimited (now (image .entry))) ⌝ }
 {
     copy(image, memory);
     let o = drawing::draw(memory, op, s, 0, false, 18446744073709551615);
@@ -122,7 +122,7 @@ fn run_point(
     requires { ⌜ point < pointsIn axes (now table) ⌝ }
     requires { ⌜ (noMemory (length (now image)) ≡ false)
         × (length (now image) ≡ length (now memory)) ⌝ }
-    requires { ⌜ Holds (p .made) (p .seed) (now image) ⌝ }
+    requires { ⌜ HoldsImage (p .made) (p .seed) (now image) ⌝ }
     requires { ⌜ p .at + longest ≤ length (now out) ⌝ }
     ensures { λ r. let n = length (now (image .entry)) in
         let held = axesIn axes (now (table .entry)) in
@@ -208,7 +208,7 @@ pub fn lines(
 ) -> Listed
     ensures { λ r. let i = now (image .entry) in let m = now (memory .entry) in
         let o = now (out .entry) in let t = now (table .entry) in
-        ⌜ r ≡ linesOf (length i) (length m) (length o) draw axes t first count ⌝ }
+        ⌜ r ≡ listedOf (length i) (length m) (length o) draw axes t first count ⌝ }
     ensures { λ _. let i = now (image .entry) in let m = now (memory .entry) in
         let o = now (out .entry) in let t = now (table .entry) in
         ⌜ now (image .exit) ≡ imageAfter i (length m) (length o) draw axes t first count ⌝ }

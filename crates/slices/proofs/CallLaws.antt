@@ -13,10 +13,10 @@ use Rattle.memory.specs.Bits.{Memory}
 use Rattle.engine.specs.Engine.{visit, visits as walkVisits}
 use Rattle.arrays.specs.Array.{vAfter}
 use Rattle.array_refusal.specs.Refusal.{refusal}
-use Rattle.drawing.specs.Draw.{refused, outcomeAt, visitedBy}
+use Rattle.drawing.specs.Draw.{refusedCall, outcomeAt, visitedBy}
 use Rattle.engine.proofs.VisitsLaws.{memory-visits}
 use Rattle.interleave.proofs.VisitLaws.{visits, upto, visits-zero}
-use Rattle.slices.specs.Calls.{Job, Held, heldOf, handedBack, memoryAfter, after}
+use Rattle.slices.specs.Calls.{Job, Held, heldOf, handedBack, memoryLeft, lastAccepted}
 use Rattle.slices.specs.Demand3.{walkOf, pixelsOf, Accepted}
 use Rattle.slices.proofs.OutcomeLaws.{at, outcome-accepted, outcome-refused, drawn-accepted, drawn-refused}
 
@@ -52,7 +52,7 @@ module _ (j : Job) where
   handed-accepted k b v m e = ap heldOf (outcome-accepted (j .operation) (j .settings) k v b (length m) e)
 
   pub handed-refused : (k b : ℕ) (v : Bool) (m : List ℕ) → number k (length m) ≢ 0
-      → handedBack j k b v m ≡ heldOf (refused (j .settings) k v (number k (length m)))
+      → handedBack j k b v m ≡ heldOf (refusedCall (j .settings) k v (number k (length m)))
   handed-refused k b v m e = ap heldOf (outcome-refused (j .operation) (j .settings) k v b (length m) e)
 
   -- the pixels visited, one after another
@@ -62,15 +62,15 @@ module _ (j : Job) where
   visits-steps k (suc c) m = ap (visit (walkOf j) (k + c)) (visits-steps k c m)
 
   pub memory-accepted : (k b : ℕ) (m : List ℕ) → number k (length m) ≡ 0
-      → memoryAfter j k b m ≡ visits (visit (walkOf j)) k (visitedOf k b) m
+      → memoryLeft j k b m ≡ visits (visit (walkOf j)) k (visitedOf k b) m
   memory-accepted k b m e = drawn-accepted (j .operation) (j .settings) k b m e ∙ visits-steps k (visitedOf k b) m
 
-  pub memory-refused : (k b : ℕ) (m : List ℕ) → number k (length m) ≢ 0 → memoryAfter j k b m ≡ m
+  pub memory-refused : (k b : ℕ) (m : List ℕ) → number k (length m) ≢ 0 → memoryLeft j k b m ≡ m
   memory-refused k b m e = drawn-refused (j .operation) (j .settings) k b m e
 
   -- a call at place 0 draws the first pixels, as many as its budget has room for
   pub memory-zero : (b k : ℕ) (m : List ℕ) → number 0 (length m) ≡ 0 → min b (pixelsOf j) ≡ k
-      → memoryAfter j 0 b m ≡ upto (visit (walkOf j)) k m
+      → memoryLeft j 0 b m ≡ upto (visit (walkOf j)) k m
   memory-zero b k m e h =
       let q : min b (pixelsOf j - 0) ≡ k = omega arith in
       memory-accepted 0 b m e ∙ ap (λ (c : ℕ). visits (visit (walkOf j)) 0 c m) q ∙ visits-zero (visit (walkOf j)) k m
@@ -107,7 +107,7 @@ module _ (j : Job) where
   heldAt-v k v = refl
 
   -- an accepted call is held; a refused one is not
-  pub after-accepted : (k : ℕ) (v : Bool) (h : Held) → after (heldAt k v) h ≡ heldAt k v
+  pub after-accepted : (k : ℕ) (v : Bool) (h : Held) → lastAccepted (heldAt k v) h ≡ heldAt k v
   unfolding heldAt outcomeAt
   after-accepted k v h = cond-lt (heldAt k v .answer) 10 _ _ (go (eqb k (pixelsOf j)))
     where
@@ -115,11 +115,11 @@ module _ (j : Job) where
       go true = omega arith
       go false = omega arith
 
-  pub after-refused : (k : ℕ) (v : Bool) (n : ℕ) (h : Held) → 10 ≤ n → after (heldOf (refused (j .settings) k v n)) h ≡ h
+  pub after-refused : (k : ℕ) (v : Bool) (n : ℕ) (h : Held) → 10 ≤ n → lastAccepted (heldOf (refusedCall (j .settings) k v n)) h ≡ h
   after-refused k v n h hn = cond-le n 10 _ _ hn
 
   -- an accepted drawing leaves a memory
-  pub memory-good : {w : ℕ} → Accepted w j → (b : ℕ) (m : List ℕ) → Memory w m → Memory w (memoryAfter j 0 b m)
+  pub memory-good : {w : ℕ} → Accepted w j → (b : ℕ) (m : List ℕ) → Memory w m → Memory w (memoryLeft j 0 b m)
   memory-good {w} hr b m g =
       subst (Memory w) (sym (drawn-accepted (j .operation) (j .settings) 0 b m (ap (number 0) (g .size) ∙ hr)))
       (memory-visits (walkOf j) 0 (visitedOf 0 b) g)

@@ -11,11 +11,11 @@ use Rattle.memory.specs.Bits.{Memory, bitAt}
 use Rattle.engine.specs.Engine.{visit}
 use Rattle.interleave.proofs.FootprintLaws.{commute, kept}
 use Rattle.interleave.proofs.JobLaws.{Commuting}
-use Rattle.slices.specs.Demand3.{walkOf, pixelsOf, Accepted, Writes, Drawings}
+use Rattle.slices.specs.Demand3.{walkOf, pixelsOf, Accepted, Writes, Setup}
 use Rattle.slices.proofs.CallLaws.{cond-eq, cond-ne, cond-lt, cond-le, number}
 use Rattle.slices.proofs.FootLaws.{foot}
 
-module _ {w : ℕ} (S : Drawings w) where
+module _ {w : ℕ} (S : Setup w) where
   -- a refused drawing has none
   unfoldable pub cnt : ℕ → ℕ
   cnt j = cond (ltb j (S .count)) (cond (eqb (number (S .jobs j) 0 w) 0) (pixelsOf (S .jobs j)) 0) 0

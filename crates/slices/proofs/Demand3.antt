@@ -7,13 +7,13 @@ use native.Mathlib.Decide.{ℕ-discrete}
 use native.Mathlib.Omega.{arith}
 use Rattle.interleave.specs.Order.{Order}
 use Rattle.interleave.proofs.FootprintLaws.{apart-sym}
-use Rattle.slices.specs.Calls.{Job, State, memoryAfter}
-use Rattle.slices.specs.Demand3.{Whole, Accepted, BitsApart, Drawings, Done, reached, inTurn, AsWhole, two, OneThenOther, Demand3}
+use Rattle.slices.specs.Calls.{Job, CallState, memoryLeft}
+use Rattle.slices.specs.Demand3.{Whole, Accepted, BitsApart, Setup, Done, reached, inTurn, AsWhole, two, OneThenOther, Demand3}
 use Rattle.slices.proofs.CallLaws.{memory-good}
 use Rattle.slices.proofs.Interleaved.{any-drawings}
 
 -- what whole calls give, in the order of two of them
-one-then-other : {w : ℕ} (S : Drawings w) (b : ℕ → ℕ) (s : State) → AsWhole S b s
+one-then-other : {w : ℕ} (S : Setup w) (b : ℕ → ℕ) (s : CallState) → AsWhole S b s
     → (i j : ℕ) → Order (S .count) (i ∷ j ∷ []) → Accepted w (S .jobs i) → Accepted w (S .jobs j)
     → OneThenOther i j (S .jobs i) (S .jobs j) (S .firstV i) (S .firstV j) (b i) (b j) (S .memory) s
 unfolding inTurn
@@ -21,7 +21,7 @@ one-then-other S b s t i j o hi hj =
     record {
       memory = t .memory (i ∷ j ∷ []) o;
       first = t .held i (o .only i (inl refl)) hi (S .memory) (S .good .size);
-      second = t .held j (o .only j (inr (inl refl))) hj (memoryAfter (S .jobs i) 0 (b i) (S .memory))
+      second = t .held j (o .only j (inr (inl refl))) hj (memoryLeft (S .jobs i) 0 (b i) (S .memory))
           (memory-good (S .jobs i) hi (b i) (S .memory) (S .good) .size);
     }
 
@@ -46,7 +46,7 @@ apart-two d e h (suc j) (suc x) ne hj hx = absurd (ne (omega arith))
 
 pub demand3 : Demand3
 demand3 w m g d e hd he apart v u cs f a0 a1 b c hb hc =
-    let S : Drawings w =
+    let S : Setup w =
     record {
       count = 2;
       jobs = two d e;

@@ -24,7 +24,7 @@ use Rattle.engine.specs.Footprint.{PixelWrites, PixelReads}
 use Rattle.engine.proofs.FootprintLaws.{memory-visit, visit-frame, visit-depend}
 use Rattle.operation.specs.declared.Operation.{Operation}
 use Rattle.operation.specs.Operation.{toXY, fromXY, sourceOf, copiesPixels}
-use Rattle.arrays.specs.Array.{part, stepOf, drawingOf, drawingFor}
+use Rattle.arrays.specs.Array.{clippedArray, stepOf, drawingOf, drawingFor}
 use Rattle.array_refusal.specs.Refusal.{badPitch, badDest, badSource, negativeStart}
 use Rattle.array_refusal.proofs.RefusalLaws.{Passes, passes}
 use Rattle.interleave.proofs.FootprintLaws.{Foot}
@@ -57,10 +57,10 @@ walk-room p e w cols i hw h hp = room p e hw (eqb-true (w .start % p) 0 (not-fal
 -- ---- the pixels of a drawing that is not refused
 module _ (op : Operation) (s : Settings) (k w : ℕ) (p : Passes op s k w) (i : ℕ) (h : i < pixels (drawingFor op s)) where
   abbrev pub badTo : Bool
-  badTo = badDest op s (part op s) (drawingFor op s)
+  badTo = badDest op s (clippedArray op s) (drawingFor op s)
 
   abbrev pub badFrom : Bool
-  badFrom = badSource op s (part op s) (drawingFor op s)
+  badFrom = badSource op s (clippedArray op s) (drawingFor op s)
 
   -- there are pixels, so that 16 looks at the starts
   pub starts : (badTo || badFrom) ≡ false
@@ -72,16 +72,16 @@ module _ (op : Operation) (s : Settings) (k w : ℕ) (p : Passes op s k w) (i : 
   dest-fits : destOf (drawingFor op s) i % 16 + drawingFor op s .psize ≤ 16
   unfolding drawingOf
   dest-fits =
-      walk-room (s .psize) (p .size) (drawingFor op s .dest) (part op s .cols) i refl
-      (or-false-right (toXY op && negativeStart (s .daddr) (part op s)) _ (or-false-left badTo badFrom starts))
+      walk-room (s .psize) (p .size) (drawingFor op s .dest) (clippedArray op s .cols) i refl
+      (or-false-right (toXY op && negativeStart (s .daddr) (clippedArray op s)) _ (or-false-left badTo badFrom starts))
       (multiple-of-badPitch (toXY op) (s .dptch) (or-false-left _ _ (p .pitch)))
 
   src-fits : drawingFor op s .source ≡ Pixels → srcOf (drawingFor op s) i % 16 + drawingFor op s .psize ≤ 16
   unfolding drawingOf
   src-fits e =
       let c : copiesPixels (sourceOf op) ≡ true = ap copiesPixels e in
-      walk-room (s .psize) (p .size) (drawingFor op s .src) (part op s .cols) i (ap (λ (k : Source). stepOf k (s .psize)) e)
-      (or-false-right (fromXY op && negativeStart (s .saddr) (part op s)) _ (and-false _ _ c (or-false-right badTo badFrom starts)))
+      walk-room (s .psize) (p .size) (drawingFor op s .src) (clippedArray op s .cols) i (ap (λ (k : Source). stepOf k (s .psize)) e)
+      (or-false-right (fromXY op && negativeStart (s .saddr) (clippedArray op s)) _ (and-false _ _ c (or-false-right badTo badFrom starts)))
       (multiple-of-badPitch (fromXY op) (s .sptch) (and-false _ _ c (or-false-right (badPitch (toXY op) (s .dptch)) _ (p .pitch))))
 
   pixel-foot : Foot w (PixelWrites (drawingFor op s) i) (PixelReads (drawingFor op s) i) (visit (drawingFor op s) i)

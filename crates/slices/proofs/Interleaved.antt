@@ -11,18 +11,18 @@ use Rattle.interleave.specs.Order.{In}
 use Rattle.interleave.proofs.VisitLaws.{upto}
 use Rattle.interleave.proofs.OrderLaws.{someOrder}
 use Rattle.interleave.proofs.JobLaws.{ordered, upto-good, obs-ordered, alone}
-use Rattle.slices.specs.Calls.{Held, Call, slice, other, State, memoryAfter, next, run}
-use Rattle.slices.specs.Demand3.{walkOf, pixelsOf, Accepted, Drawings, Fine, reached, Done, inTurn, AnyDrawings, StoppedAnywhere}
+use Rattle.slices.specs.Calls.{Held, Call, slice, other, CallState, memoryLeft, next, run}
+use Rattle.slices.specs.Demand3.{walkOf, pixelsOf, Accepted, Setup, Fine, reached, Done, inTurn, AnyDrawings, StoppedAnywhere}
 use Rattle.slices.specs.Demand3.{OthersStay, DoneForGood}
 use Rattle.slices.proofs.CallLaws.{number, heldAt, memory-zero, memory-refused, handed-whole, answer-place, place-answer}
 use Rattle.slices.proofs.CountLaws.{cnt, step, cnt-live, cnt-none, commuting, step-keeps, step-keeps-all}
 use Rattle.slices.proofs.Invariant.{Inv, Drew, places, moved, moved-here, moved-there}
 use Rattle.slices.proofs.RunLaws.{Came, idle, drew, came, next-other, inv-came, inv-ran}
 
-module _ {w : ℕ} (S : Drawings w) where
+module _ {w : ℕ} (S : Setup w) where
   -- the first k pixels of drawing j by one call; a refused one has none
   part-memory : (j k b : ℕ) → k ≤ cnt S j → (Accepted w (S .jobs j) → min b (pixelsOf (S .jobs j)) ≡ k) → (m : List ℕ) → Memory w m
-      → upto (step S j) k m ≡ memoryAfter (S .jobs j) 0 b m
+      → upto (step S j) k m ≡ memoryLeft (S .jobs j) 0 b m
   unfolding step upto
   part-memory j k b hk hb m g =
       by-cases (ℕ-discrete (number (S .jobs j) 0 w) 0)
@@ -44,26 +44,26 @@ module _ {w : ℕ} (S : Drawings w) where
       ∙ ap (inTurn (S .jobs) b os) (part-memory j (p j) (b j) (hp j) (hb j (h j (inl refl))) m g)
 
   -- an accepted drawing is at most at its end, and where its last answer is 0, there
-  place-le : (s : State) → Inv S s → (j : ℕ) → j < S .count → Accepted w (S .jobs j) → places s j ≤ pixelsOf (S .jobs j)
+  place-le : (s : CallState) → Inv S s → (j : ℕ) → j < S .count → Accepted w (S .jobs j) → places s j ≤ pixelsOf (S .jobs j)
   place-le s I j hj hr = omega (arith, I .fits j, cnt-live S j hj hr)
 
-  done-drew : (s : State) → Inv S s → (j : ℕ) → Done s j → Drew S s j
+  done-drew : (s : CallState) → Inv S s → (j : ℕ) → Done s j → Drew S s j
   done-drew s I j a =
       ⊎-elim
       (λ e. absurd (let z : _≡_ {A = ℕ} 1 0 = sym (ap (λ (h : Held). h .answer) e) ∙ a in omega arith))
       (λ p. p)
       (I .job j)
 
-  done-place : (s : State) → Inv S s → (j : ℕ) → Done s j → places s j ≡ pixelsOf (S .jobs j)
+  done-place : (s : CallState) → Inv S s → (j : ℕ) → Done s j → places s j ≡ pixelsOf (S .jobs j)
   done-place s I j a =
       answer-place (S .jobs j) (places s j) (S .firstV j) (sym (ap (λ (h : Held). h .answer) (done-drew s I j a .holds)) ∙ a)
 
   -- ---- done stays done
 
-  stays-came : (s : State) → Inv S s → (x : ℕ) (t : State) → Came S s x t → (j : ℕ) → Done s j → Done t j
-  stays-came s I x t (idle hr e) j a = ap (λ (y : State). y .held j .answer) e ∙ a
+  stays-came : (s : CallState) → Inv S s → (x : ℕ) (t : CallState) → Came S s x t → (j : ℕ) → Done s j → Done t j
+  stays-came s I x t (idle hr e) j a = ap (λ (y : CallState). y .held j .answer) e ∙ a
   stays-came s I x t (drew c hr hc e) j a =
-      ap (λ (y : State). y .held j .answer) e
+      ap (λ (y : CallState). y .held j .answer) e
       ∙ by-cases (ℕ-discrete j x)
       (λ q. subst (λ (y : ℕ). moved S s x c .held y .answer ≡ 0) (sym q)
       (ap (λ (h : Held). h .answer) (moved-here S s x c)
@@ -72,7 +72,7 @@ module _ {w : ℕ} (S : Drawings w) where
       omega arith)))
       (λ ne. ap (λ (h : Held). h .answer) (moved-there S s x c j ne) ∙ a)
 
-  stays-run : (ds : List Call) → Fine w (S .count) ds → (s : State) → Inv S s → (j : ℕ) → Done s j → Done (run (S .jobs) ds s) j
+  stays-run : (ds : List Call) → Fine w (S .count) ds → (s : CallState) → Inv S s → (j : ℕ) → Done s j → Done (run (S .jobs) ds s) j
   unfolding run
   stays-run [] f s I j a = a
   stays-run (slice x b ∷ ds) f s I j a =
@@ -80,11 +80,11 @@ module _ {w : ℕ} (S : Drawings w) where
       stays-run ds (f .1) (next (S .jobs) (slice x b) s) (inv-came S s I x (f .0) _ t) j (stays-came s I x _ t j a)
   stays-run (other d k b v ∷ ds) f s I j a =
       let e = sym (next-other S s I d k b v (f .0)) in
-      stays-run ds (f .1) (next (S .jobs) (other d k b v) s) (subst (Inv S) e I) j (subst (λ (t : State). Done t j) e a)
+      stays-run ds (f .1) (next (S .jobs) (other d k b v) s) (subst (Inv S) e I) j (subst (λ (t : CallState). Done t j) e a)
 
 pub any-drawings : AnyDrawings
 any-drawings w S cs f d b hb =
-    let s : State = reached S cs in
+    let s : CallState = reached S cs in
     let I : Inv S s = inv-ran S cs f in
     let e : (j : ℕ) → j < S .count → Accepted w (S .jobs j) → places s j ≡ pixelsOf (S .jobs j) =
     λ j hj hr. done-place S s I j (d j hj hr) in
@@ -101,7 +101,7 @@ any-drawings w S cs f d b hb =
 pub stopped-anywhere : StoppedAnywhere
 unfolding step
 stopped-anywhere w S cs f j hj hr a y =
-    let s : State = reached S cs in
+    let s : CallState = reached S cs in
     let I : Inv S s = inv-ran S cs f in
     let o = someOrder (S .count) in
     ap (λ (m : List ℕ). bitAt m a) (I .mem (o .0) (o .1))
@@ -114,7 +114,7 @@ stopped-anywhere w S cs f j hj hr a y =
 -- no drawing has the number S .count, so all that stand in an order are others
 pub others-stay : OthersStay
 others-stay w S cs f a none =
-    let s : State = reached S cs in
+    let s : CallState = reached S cs in
     let I : Inv S s = inv-ran S cs f in
     let o = someOrder (S .count) in
     ap (λ (m : List ℕ). bitAt m a) (I .mem (o .0) (o .1))

@@ -11,23 +11,23 @@ use Rattle.memory.specs.Bits.{Memory}
 use Rattle.interleave.specs.Order.{Order}
 use Rattle.interleave.proofs.VisitLaws.{visits}
 use Rattle.interleave.proofs.JobLaws.{ordered, ordered-none, visits-good, advance}
-use Rattle.slices.specs.Calls.{Held, State, fresh, start}
-use Rattle.slices.specs.Demand3.{pixelsOf, Accepted, Drawings}
+use Rattle.slices.specs.Calls.{Held, CallState, fresh, start}
+use Rattle.slices.specs.Demand3.{pixelsOf, Accepted, Setup}
 use Rattle.slices.proofs.CallLaws.{cond-eq, cond-ne, heldAt, heldAt-place}
 use Rattle.slices.proofs.CountLaws.{cnt, step, cnt-live, commuting}
 
-abbrev pub places : State → ℕ → ℕ
+abbrev pub places : CallState → ℕ → ℕ
 places s j = s .held j .place
 
-module _ {w : ℕ} (S : Drawings w) where
+module _ {w : ℕ} (S : Setup w) where
   -- drawing j was accepted, and what is held of it is what its place gives with its first V
-  pub record Drew (s : State) (j : ℕ) : Type 0 where
+  pub record Drew (s : CallState) (j : ℕ) : Type 0 where
     pub job : j < S .count
     pub taken : Accepted w (S .jobs j)
     pub holds : s .held j ≡ heldAt (S .jobs j) (places s j) (S .firstV j)
 
   -- every order gives the memory; what is held of each drawing is fresh, or what its place gives
-  pub record Inv (s : State) : Type 0 where
+  pub record Inv (s : CallState) : Type 0 where
     pub good : Memory w (s .memory)
     pub fits : (j : ℕ) → places s j ≤ cnt S j
     pub mem : (os : List ℕ) → Order (S .count) os → s .memory ≡ ordered (step S) (places s) os (S .memory)
@@ -43,14 +43,14 @@ module _ {w : ℕ} (S : Drawings w) where
       }
 
   -- c more pixels of drawing j
-  unfoldable pub moved : State → ℕ → ℕ → State
+  unfoldable pub moved : CallState → ℕ → ℕ → CallState
   moved s j c =
       record {
         memory = visits (step S j) (places s j) c (s .memory);
         held = λ x. cond (eqb x j) (heldAt (S .jobs j) (places s j + c) (S .firstV j)) (s .held x);
       }
 
-  module _ (s : State) (j c : ℕ) where
+  module _ (s : CallState) (j c : ℕ) where
     pub moved-here : moved s j c .held j ≡ heldAt (S .jobs j) (places s j + c) (S .firstV j)
     unfolding moved
     moved-here = cond-eq j j _ (s .held j) refl

@@ -16,7 +16,7 @@ use Rattle.operation.specs.declared.Operation.{Operation}
 use Rattle.drawing.specs.declared.Outcome.{Outcome}
 use Rattle.arrays.specs.Array.{vAfter, drawingFor}
 use Rattle.array_refusal.specs.Refusal.{refusal}
-use Rattle.drawing.specs.Draw.{refused, outcomeAt, visitedBy, outcome, drawn}
+use Rattle.drawing.specs.Draw.{refusedCall, outcomeAt, visitedBy, outcome, drawn}
 use Rattle.array_refusal.proofs.RefusalLaws.{place-le, refusal-moved}
 use Rattle.slices.specs.Joined.{together, total, handedBy, leftBy}
 use Rattle.slices.proofs.OutcomeLaws.{at, vAfter-twice, outcome-accepted, outcome-refused, drawn-accepted}
@@ -86,7 +86,7 @@ module _ (op : Operation) (s : Settings) where
 
     module _ (e : refusal op s k (length m) ≢ 0) where
       abbrev back : Outcome
-      back = refused s k v (refusal op s k (length m))
+      back = refusedCall s k v (refusal op s k (length m))
 
       back-is : first ≡ back
       back-is = outcome-refused op s k v b (length m) e

@@ -17,9 +17,9 @@ use Rattle.engine.specs.Engine.{visits}
 use Rattle.operation.specs.declared.Operation.{Operation}
 use Rattle.drawing.specs.declared.Outcome.{Outcome}
 use Rattle.operation.specs.Operation.{toXY}
-use Rattle.arrays.specs.Array.{rectangleOf, part, vAfter, drawingFor}
+use Rattle.arrays.specs.Array.{rectangleOf, clippedArray, vAfter, drawingFor}
 use Rattle.array_refusal.specs.Refusal.{refusal}
-use Rattle.drawing.specs.Draw.{refused, outcomeAt, visitedBy, outcome, drawn}
+use Rattle.drawing.specs.Draw.{refusedCall, outcomeAt, visitedBy, outcome, drawn}
 
 -- ---- V is worked out anew, or stays
 pub vAfter-twice : (op : Operation) (s : Settings) (v : Bool) → vAfter op s (vAfter op s v) ≡ vAfter op s v
@@ -36,14 +36,14 @@ vAfter-twice op s v = go (toXY op)
 module _ (op : Operation) (s : Settings) where
   -- ---- a call that is not refused, and one that is
   abbrev pub at : Bool → ℕ → ℕ → Outcome
-  at v place visited = outcomeAt op s (part op s) (drawingFor op s) v place visited
+  at v place visited = outcomeAt op s (clippedArray op s) (drawingFor op s) v place visited
 
   pub outcome-accepted : (k : ℕ) (v : Bool) (b w : ℕ) → refusal op s k w ≡ 0
       → outcome op s k v b w ≡ at (vAfter op s v) (k + visitedBy op s k b) (visitedBy op s k b)
   unfolding outcome
   outcome-accepted k v b w e = rw (eq-eqb _ _ e)
 
-  pub outcome-refused : (k : ℕ) (v : Bool) (b w : ℕ) → refusal op s k w ≢ 0 → outcome op s k v b w ≡ refused s k v (refusal op s k w)
+  pub outcome-refused : (k : ℕ) (v : Bool) (b w : ℕ) → refusal op s k w ≢ 0 → outcome op s k v b w ≡ refusedCall s k v (refusal op s k w)
   unfolding outcome
   outcome-refused k v b w e = rw (ne-eqb _ _ e)
 

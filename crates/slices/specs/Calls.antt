@@ -49,8 +49,8 @@ abbrev pub handedBack : Job → ℕ → ℕ → Bool → List ℕ → Held
 handedBack j place budget v m = heldOf (outcome (j .operation) (j .settings) place v budget (length m))
 
 -- the memory that it leaves: drawing, place, budget, memory
-abbrev pub memoryAfter : Job → ℕ → ℕ → List ℕ → List ℕ
-memoryAfter j place budget m = drawn (j .operation) (j .settings) place budget m
+abbrev pub memoryLeft : Job → ℕ → ℕ → List ℕ → List ℕ
+memoryLeft j place budget m = drawn (j .operation) (j .settings) place budget m
 
 -- ---- a list of calls. The drawings are numbered from 0: jobs j is drawing j
 
@@ -62,28 +62,28 @@ pub data Call : Type 0 where
   other : Job → ℕ → ℕ → Bool → Call
 
 -- the one memory, and what is held of each drawing
-pub record State : Type 0 where
+pub record CallState : Type 0 where
   pub memory : List ℕ
   pub held : ℕ → Held
 
 -- "Its flags, V and request, and all its registers are those of its last accepted call": one that
 -- answers 10 or more is refused, and changes nothing of what is held
-abbrev pub after : Held → Held → Held
-after new old = cond (ltb (new .answer) 10) new old
+abbrev pub lastAccepted : Held → Held → Held
+lastAccepted new old = cond (ltb (new .answer) 10) new old
 
 -- one call. A slice goes on at the place and with the V that are held of its drawing; any other
 -- call leaves all that is held
-unfoldable pub next : (ℕ → Job) → Call → State → State
+unfoldable pub next : (ℕ → Job) → Call → CallState → CallState
 next jobs (slice j b) s =
     let old = s .held j in
     record {
-      memory = memoryAfter (jobs j) (old .place) b (s .memory);
-      held = λ x. cond (eqb x j) (after (handedBack (jobs j) (old .place) b (old .v) (s .memory)) old) (s .held x);
+      memory = memoryLeft (jobs j) (old .place) b (s .memory);
+      held = λ x. cond (eqb x j) (lastAccepted (handedBack (jobs j) (old .place) b (old .v) (s .memory)) old) (s .held x);
     }
-next jobs (other d k b v) s = record { memory = memoryAfter d k b (s .memory); held = s .held }
+next jobs (other d k b v) s = record { memory = memoryLeft d k b (s .memory); held = s .held }
 
 -- a list of calls, the first one first
-unfoldable pub run : (ℕ → Job) → List Call → State → State
+unfoldable pub run : (ℕ → Job) → List Call → CallState → CallState
 run jobs [] s = s
 run jobs (c ∷ cs) s = run jobs cs (next jobs c s)
 
@@ -101,5 +101,5 @@ fresh j v =
       settings = j .settings;
     }
 
-abbrev pub start : (ℕ → Job) → (ℕ → Bool) → List ℕ → State
+abbrev pub start : (ℕ → Job) → (ℕ → Bool) → List ℕ → CallState
 start jobs v m = record { memory = m; held = λ j. fresh (jobs j) (v j) }

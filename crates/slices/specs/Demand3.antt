@@ -17,7 +17,7 @@ use Rattle.arrays.specs.Array.{drawingFor}
 use Rattle.array_refusal.specs.Refusal.{refusal}
 use Rattle.interleave.specs.Apart.{Apart}
 use Rattle.interleave.specs.Order.{Order}
-use Rattle.slices.specs.Calls.{Job, Call, slice, other, State, handedBack, memoryAfter, run, fresh, start}
+use Rattle.slices.specs.Calls.{Job, Call, slice, other, CallState, handedBack, memoryLeft, run, fresh, start}
 
 -- ---- a drawing
 
@@ -52,7 +52,7 @@ BitsApart d e = Apart (Writes d) (Reads d) (Writes e) (Reads e)
 
 -- several drawings over one memory of w words: how many, each one's first V, and the first memory.
 -- The bits of no two accepted ones meet
-pub record Drawings (w : ℕ) : Type 0 where
+pub record Setup (w : ℕ) : Type 0 where
   pub count : ℕ
   pub jobs : ℕ → Job
   pub firstV : ℕ → Bool
@@ -70,11 +70,11 @@ Fine w count (slice j b ∷ cs) = (j < count) × Fine w count cs
 Fine w count (other d k b v ∷ cs) = (refusal (d .operation) (d .settings) k w ≢ 0) × Fine w count cs
 
 -- what it leads to
-abbrev pub reached : {w : ℕ} → Drawings w → List Call → State
+abbrev pub reached : {w : ℕ} → Setup w → List Call → CallState
 reached S cs = run (S .jobs) cs (start (S .jobs) (S .firstV) (S .memory))
 
 -- "It is done once a call of its own answers 0, and more may follow"
-abbrev pub Done : State → ℕ → Type 0
+abbrev pub Done : CallState → ℕ → Type 0
 Done s j = s .held j .answer ≡ 0
 
 -- ---- whole calls, one after another
@@ -83,13 +83,13 @@ Done s j = s .held j .answer ≡ 0
 -- memory that the one before left
 unfoldable pub inTurn : (ℕ → Job) → (ℕ → ℕ) → List ℕ → List ℕ → List ℕ
 inTurn jobs b [] m = m
-inTurn jobs b (j ∷ os) m = inTurn jobs b os (memoryAfter (jobs j) 0 (b j) m)
+inTurn jobs b (j ∷ os) m = inTurn jobs b os (memoryLeft (jobs j) 0 (b j) m)
 
 -- a state is what whole calls with the budgets b give: the memory that they leave one after
 -- another, in every order; of each accepted drawing all that its whole call hands back, its flags,
 -- V and request, and all its registers, on any memory of w words; of a refused one, which has no
 -- accepted call, what was given
-pub record AsWhole {w : ℕ} (S : Drawings w) (b : ℕ → ℕ) (s : State) : Type 0 where
+pub record AsWhole {w : ℕ} (S : Setup w) (b : ℕ → ℕ) (s : CallState) : Type 0 where
   pub memory : (os : List ℕ) → Order (S .count) os → s .memory ≡ inTurn (S .jobs) b os (S .memory)
   pub held : (j : ℕ) → j < S .count → Accepted w (S .jobs j) → (m : List ℕ) → length m ≡ w
       → s .held j ≡ handedBack (S .jobs j) 0 (b j) (S .firstV j) m
@@ -99,7 +99,7 @@ pub record AsWhole {w : ℕ} (S : Drawings w) (b : ℕ → ℕ) (s : State) : Ty
 -- gives what whole calls give
 abbrev pub AnyDrawings : Type 0
 AnyDrawings =
-    (w : ℕ) (S : Drawings w) (cs : List Call) → Fine w (S .count) cs
+    (w : ℕ) (S : Setup w) (cs : List Call) → Fine w (S .count) cs
     → ((j : ℕ) → j < S .count → Accepted w (S .jobs j) → Done (reached S cs) j)
     → (b : ℕ → ℕ) → ((j : ℕ) → j < S .count → Whole (S .jobs j) (b j)) → AsWhole S b (reached S cs)
 
@@ -112,15 +112,15 @@ two d e (suc j) = e
 
 -- what a list of calls of d (number 0, first V v) and e (number 1,
 -- first V u) leads to, from memory m
-abbrev pub afterCalls : (d e : Job) (v u : Bool) → List ℕ → List Call → State
+abbrev pub afterCalls : (d e : Job) (v u : Bool) → List ℕ → List Call → CallState
 afterCalls d e v u m cs = run (two d e) cs (start (two d e) (two v u) m)
 
 -- a state is what d (number i) whole and then e (number j) whole give, with first V's v and u and
 -- budgets b and c, from memory m
-pub record OneThenOther (i j : ℕ) (d e : Job) (v u : Bool) (b c : ℕ) (m : List ℕ) (s : State) : Type 0 where
-  pub memory : s .memory ≡ memoryAfter e 0 c (memoryAfter d 0 b m)
+pub record OneThenOther (i j : ℕ) (d e : Job) (v u : Bool) (b c : ℕ) (m : List ℕ) (s : CallState) : Type 0 where
+  pub memory : s .memory ≡ memoryLeft e 0 c (memoryLeft d 0 b m)
   pub first : s .held i ≡ handedBack d 0 b v m
-  pub second : s .held j ≡ handedBack e 0 c u (memoryAfter d 0 b m)
+  pub second : s .held j ≡ handedBack e 0 c u (memoryLeft d 0 b m)
 
 -- the claim of two accepted drawings: once a call of each has answered 0 (after which it stays
 -- done: DoneForGood), memory, flags and registers are those of d whole and then e whole, and those
@@ -139,19 +139,19 @@ Demand3 =
 -- drawing alone has at its place
 abbrev pub StoppedAnywhere : Type 0
 StoppedAnywhere =
-    (w : ℕ) (S : Drawings w) (cs : List Call) → Fine w (S .count) cs
+    (w : ℕ) (S : Setup w) (cs : List Call) → Fine w (S .count) cs
     → (j : ℕ) → j < S .count → Accepted w (S .jobs j) → (a : ℕ) → Writes (S .jobs j) a
-    → bitAt (reached S cs .memory) a ≡ bitAt (memoryAfter (S .jobs j) 0 (reached S cs .held j .place) (S .memory)) a
+    → bitAt (reached S cs .memory) a ≡ bitAt (memoryLeft (S .jobs j) 0 (reached S cs .held j .place) (S .memory)) a
 
 -- bits that no accepted drawing may write stay
 abbrev pub OthersStay : Type 0
 OthersStay =
-    (w : ℕ) (S : Drawings w) (cs : List Call) → Fine w (S .count) cs
+    (w : ℕ) (S : Setup w) (cs : List Call) → Fine w (S .count) cs
     → (a : ℕ) → ((j : ℕ) → j < S .count → Accepted w (S .jobs j) → Writes (S .jobs j) a → ⊥)
     → bitAt (reached S cs .memory) a ≡ bitAt (S .memory) a
 
 -- once a call of its own has answered 0, a drawing stays done whatever follows
 abbrev pub DoneForGood : Type 0
 DoneForGood =
-    (w : ℕ) (S : Drawings w) (cs ds : List Call) → Fine w (S .count) cs → Fine w (S .count) ds
+    (w : ℕ) (S : Setup w) (cs ds : List Call) → Fine w (S .count) cs → Fine w (S .count) ds
     → (j : ℕ) → Done (reached S cs) j → Done (run (S .jobs) ds (reached S cs)) j

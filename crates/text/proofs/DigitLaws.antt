@@ -14,7 +14,7 @@ use lib.Seq.{drop-cons}
 use Rattle.lists.proofs.TestLaws.{cond-same}
 use Rattle.ascii.specs.Ascii.{digit0, digit9}
 use Rattle.text.specs.declared.Number.the-variants.{Value, Bad}
-use Rattle.text.specs.Number.{isDigit, areDigits, decimal, fitting, digitsOf, pushed}
+use Rattle.text.specs.Number.{isDigit, areDigits, digitsValue, fitting, digitsOf, pushed}
 
 -- A number, or none
 
@@ -54,8 +54,8 @@ pushed-lt v c w e = fitting-value (isDigit c) (v * 10 + (c - digit0)) w e .2
 -- The value of digits
 
 -- it only grows
-pub decimal-ge : (v : ℕ) (cs : List ℕ) → v ≤ decimal v cs
-unfolding decimal
+pub decimal-ge : (v : ℕ) (cs : List ℕ) → v ≤ digitsValue v cs
+unfolding digitsValue
 decimal-ge v [] = le-refl v
 decimal-ge v (c ∷ cs) = le-trans (more v (c - digit0)) (decimal-ge (v * 10 + (c - digit0)) cs)
   where
@@ -66,8 +66,8 @@ pub isDigit-le : (c : ℕ) → isDigit c ≡ true → (digit0 ≤ c) × (c ≤ d
 isDigit-le c e = let t = and-eq-true-iff (leb digit0 c) (leb c digit9) .0 e in (leb-true digit0 c (t .0), leb-true c digit9 (t .1))
 
 -- a greater value stays greater, where no fewer digits follow it
-pub decimal-lt : (v w : ℕ) (a b : List ℕ) → v < w → length a ≤ length b → areDigits a ≡ true → decimal v a < decimal w b
-unfolding areDigits decimal
+pub decimal-lt : (v w : ℕ) (a b : List ℕ) → v < w → length a ≤ length b → areDigits a ≡ true → digitsValue v a < digitsValue w b
+unfolding areDigits digitsValue
 decimal-lt v w [] b h n t = omega (arith, decimal-ge w b)
 decimal-lt v w (c ∷ a) [] h n t = absurd (omega arith)
 decimal-lt v w (c ∷ a) (d ∷ b) h n t =
@@ -76,9 +76,9 @@ decimal-lt v w (c ∷ a) (d ∷ b) h n t =
     decimal-lt (v * 10 + (c - digit0)) (w * 10 + (d - digit0)) a b (omega arith) (omega arith) (q .1)
 
 -- as many digits with the same value are the same
-pub decimal-inj : (v w : ℕ) (a b : List ℕ) → length a ≡ length b → areDigits a ≡ true → areDigits b ≡ true → decimal v a ≡ decimal w b
+pub decimal-inj : (v w : ℕ) (a b : List ℕ) → length a ≡ length b → areDigits a ≡ true → areDigits b ≡ true → digitsValue v a ≡ digitsValue w b
     → (v ≡ w) × (a ≡ b)
-unfolding areDigits decimal
+unfolding areDigits digitsValue
 decimal-inj v w [] [] n s t e = (e, refl)
 decimal-inj v w [] (d ∷ b) n s t e = absurd (omega arith)
 decimal-inj v w (c ∷ a) [] n s t e = absurd (omega arith)
@@ -94,22 +94,22 @@ decimal-inj v w (c ∷ a) (d ∷ b) n s t e =
 -- The next digit
 
 digitsOf-cons : (v c w : ℕ) (cs : List ℕ) → pushed v c ≡ Value w → digitsOf v (c ∷ cs) ≡ digitsOf w cs
-unfolding areDigits decimal
+unfolding areDigits digitsValue
 digitsOf-cons v c w cs = go (isDigit c) (ltb (v * 10 + (c - digit0)) (2 ^ 64))
   where
     go : (b d : Bool) → cond b (cond d (Value (v * 10 + (c - digit0))) Bad) Bad ≡ Value w
-        → cond (b && areDigits cs) (fitting (decimal (v * 10 + (c - digit0)) cs)) Bad ≡ digitsOf w cs
+        → cond (b && areDigits cs) (fitting (digitsValue (v * 10 + (c - digit0)) cs)) Bad ≡ digitsOf w cs
     go true true e = ap (λ (n : ℕ). digitsOf n cs) (Value-inj _ w e)
     go true false e = absurd (Bad-ne-Value w e)
     go false d e = absurd (Bad-ne-Value w e)
 
 -- no digit, or a value that is too large however it goes on
 digitsOf-bad : (v c : ℕ) (cs : List ℕ) → pushed v c ≡ Bad → digitsOf v (c ∷ cs) ≡ Bad
-unfolding areDigits decimal
+unfolding areDigits digitsValue
 digitsOf-bad v c cs = go (isDigit c) (ltb (v * 10 + (c - digit0)) (2 ^ 64)) refl
   where
     go : (b d : Bool) → ltb (v * 10 + (c - digit0)) (2 ^ 64) ≡ d → cond b (cond d (Value (v * 10 + (c - digit0))) Bad) Bad ≡ Bad
-        → cond (b && areDigits cs) (fitting (decimal (v * 10 + (c - digit0)) cs)) Bad ≡ Bad
+        → cond (b && areDigits cs) (fitting (digitsValue (v * 10 + (c - digit0)) cs)) Bad ≡ Bad
     go true true t e = absurd (Bad-ne-Value _ (sym e))
     go true false t e = rw (le-ltb _ _ (le-trans (ltb-false _ _ t) (decimal-ge (v * 10 + (c - digit0)) cs))) (cond-same (areDigits cs) Bad)
     go false d t e = refl
@@ -122,5 +122,5 @@ module _ (s : List ℕ) (i v : ℕ) where
   digitsOf-stop l e = rw (drop-cons s i 0 l) (digitsOf-bad v (getD s i 0) (drop (suc i) s) e)
 
   pub digitsOf-end : length s ≤ i → v < 2 ^ 64 → digitsOf v (drop i s) ≡ Value v
-  unfolding areDigits decimal
+  unfolding areDigits digitsValue
   digitsOf-end l h = rw (drop-of-length-le s l, lt-ltb v (2 ^ 64) h)

@@ -10,7 +10,7 @@ use lib.Dec.{eqb, ltb}
 use lib.ListN.{length, getD}
 use Rattle.ascii.specs.Ascii.{digit0}
 use Rattle.text.specs.declared.Number.the-variants.{Value, Bad}
-use Rattle.text.specs.Number.{isDigit, areDigits, decimal, digitsOf, numberOf}
+use Rattle.text.specs.Number.{isDigit, areDigits, digitsValue, digitsOf, numberOf}
 use Rattle.text.proofs.DigitLaws.{Bad-ne-Value, fitting-value, isDigit-le, decimal-lt, decimal-inj}
 
 -- A field by its length and its first byte
@@ -45,12 +45,12 @@ record Written (s : List ℕ) (v : ℕ) : Type 0 where
   some : 0 < length s
   digits : areDigits s ≡ true
   unled : leads s ≡ false
-  value : decimal 0 s ≡ v
+  value : digitsValue 0 s ≡ v
   fits : v < 2 ^ 64
 
 digitsOf-written : (s : List ℕ) (v : ℕ) → 0 < length s → leads s ≡ false → digitsOf 0 s ≡ Value v → Written s v
 digitsOf-written s v n l e =
-    let t = fitting-value (areDigits s) (decimal 0 s) v e in
+    let t = fitting-value (areDigits s) (digitsValue 0 s) v e in
     record { some = n; digits = t .0; unled = l; value = t .1; fits = t .2 }
 
 numberOf-written : (s : List ℕ) (v : ℕ) → numberOf s ≡ Value v → Written s v
@@ -67,7 +67,7 @@ numberOf-written (c ∷ d ∷ s) v e = go (eqb c digit0) refl e
 
 -- fewer digits, a smaller number
 fewer-lt : (a b : List ℕ) (v w : ℕ) → Written a v → Written b w → length a < length b → v < w
-unfolding areDigits decimal
+unfolding areDigits digitsValue
 fewer-lt a [] v w p q h = absurd (omega arith)
 fewer-lt a (d ∷ b) v w p q h =
     let t = and-eq-true-iff (isDigit d) (areDigits b) .0 (q .digits) in

@@ -9,7 +9,7 @@ use borrow.Author.Tests.{eqb-true, eq-eqb, ne-eqb}
 use lib.Dec.{eqb}
 use lib.ListN.{length, getD, take, drop, length-drop, drop-of-length-le}
 use lib.Seq.{drop-cons, drop-drop}
-use Rattle.text.specs.Text.{upTo, before, parts, same}
+use Rattle.text.specs.Text.{upTo, inFront, parts, same}
 
 -- The part at the text's start
 
@@ -47,26 +47,26 @@ module _ (mark : ℕ) where
   -- a part before a mark, and the last part
   parts-mark : (s : List ℕ) → length (upTo mark s) < length s
       → parts mark s ≡ upTo mark s ∷ parts mark (drop (suc (length (upTo mark s))) s)
-  unfolding upTo before parts
+  unfolding upTo inFront parts
   parts-mark [] h = absurd (omega arith)
   parts-mark (c ∷ s) h = go (eqb c mark) h (parts-mark s)
     where
       go : (b : Bool) → length (cond b [] (c ∷ upTo mark s)) < suc (length s)
           → (length (upTo mark s) < length s → parts mark s ≡ upTo mark s ∷ parts mark (drop (suc (length (upTo mark s))) s))
-          → cond b ([] ∷ parts mark s) (before c (parts mark s))
+          → cond b ([] ∷ parts mark s) (inFront c (parts mark s))
           ≡ cond b [] (c ∷ upTo mark s) ∷ parts mark (drop (suc (length (cond b [] (c ∷ upTo mark s)))) (c ∷ s))
       go true h f = refl
-      go false h f = ap (before c) (f (omega arith))
+      go false h f = ap (inFront c) (f (omega arith))
 
   parts-all : (s : List ℕ) → length s ≤ length (upTo mark s) → parts mark s ≡ s ∷ []
-  unfolding upTo before parts
+  unfolding upTo inFront parts
   parts-all [] h = refl
   parts-all (c ∷ s) h = go (eqb c mark) h (parts-all s)
     where
       go : (b : Bool) → suc (length s) ≤ length (cond b [] (c ∷ upTo mark s)) → (length s ≤ length (upTo mark s) → parts mark s ≡ s ∷ [])
-          → cond b ([] ∷ parts mark s) (before c (parts mark s)) ≡ (c ∷ s) ∷ []
+          → cond b ([] ∷ parts mark s) (inFront c (parts mark s)) ≡ (c ∷ s) ∷ []
       go true h f = absurd (omega arith)
-      go false h f = ap (before c) (f (omega arith))
+      go false h f = ap (inFront c) (f (omega arith))
 
 -- The part at a place of the text, as a loop over the text finds its end
 

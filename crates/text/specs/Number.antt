@@ -17,9 +17,9 @@ areDigits [] = true
 areDigits (c ∷ cs) = isDigit c && areDigits cs
 
 -- the value of digits that follow a value
-unfoldable pub decimal : ℕ → List ℕ → ℕ
-decimal v [] = v
-decimal v (c ∷ cs) = decimal (v * 10 + (c - digit0)) cs
+unfoldable pub digitsValue : ℕ → List ℕ → ℕ
+digitsValue v [] = v
+digitsValue v (c ∷ cs) = digitsValue (v * 10 + (c - digit0)) cs
 
 -- a value, where it is at most 2^64 - 1
 abbrev pub fitting : ℕ → Number
@@ -27,7 +27,7 @@ fitting v = cond (ltb v (2 ^ 64)) (Value v) Bad
 
 -- digits that follow a value; one digit
 abbrev pub digitsOf : ℕ → List ℕ → Number
-digitsOf v cs = cond (areDigits cs) (fitting (decimal v cs)) Bad
+digitsOf v cs = cond (areDigits cs) (fitting (digitsValue v cs)) Bad
 
 abbrev pub pushed : ℕ → ℕ → Number
 pushed v c = cond (isDigit c) (fitting (v * 10 + (c - digit0))) Bad

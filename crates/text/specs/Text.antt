@@ -12,14 +12,14 @@ upTo mark [] = []
 upTo mark (c ∷ cs) = cond (eqb c mark) [] (c ∷ upTo mark cs)
 
 -- a byte in front of the first part
-unfoldable pub before : ℕ → List (List ℕ) → List (List ℕ)
-before c [] = (c ∷ []) ∷ []
-before c (p ∷ ps) = (c ∷ p) ∷ ps
+unfoldable pub inFront : ℕ → List (List ℕ) → List (List ℕ)
+inFront c [] = (c ∷ []) ∷ []
+inFront c (p ∷ ps) = (c ∷ p) ∷ ps
 
 -- the parts between marks: one more than there are marks
 unfoldable pub parts : ℕ → List ℕ → List (List ℕ)
 parts mark [] = [] ∷ []
-parts mark (c ∷ cs) = cond (eqb c mark) ([] ∷ parts mark cs) (before c (parts mark cs))
+parts mark (c ∷ cs) = cond (eqb c mark) ([] ∷ parts mark cs) (inFront c (parts mark cs))
 
 -- the lines that byte 10 ends, and last what follows the last byte 10: nothing where the text ends
 -- as it should

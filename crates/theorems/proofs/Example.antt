@@ -2,21 +2,21 @@
 use mathlib.Core.Path.{_≡_, refl, ap}
 use mathlib.Core.List.{_++_}
 use Rattle.lists.specs.Search.{any, first, anyPair}
-use Rattle.text.specs.Text.{before, parts, same}
-use Rattle.text.specs.Number.{areDigits, decimal, numberOf}
+use Rattle.text.specs.Text.{inFront, parts, same}
+use Rattle.text.specs.Number.{areDigits, digitsValue, numberOf}
 use Rattle.names.specs.Names.{limit}
 use Rattle.points.specs.Axes.{axisLength, valueAt, axisValues, count}
 use Rattle.line.specs.Line.{memoryOf, drawOf, nameOf}
-use Rattle.axis.specs.Axis.{valuesOf, badForm, refusal}
-use Rattle.plan.specs.Reading.{kept, accepted, axisLines, drawLine, memoryLine, reading}
+use Rattle.axis.specs.Axis.{valuesOf, badForm, lineRefusal}
+use Rattle.plan.specs.Reading.{keptLines, acceptedReading, readAxes, readDraw, readMemory, reading}
 use Rattle.listing.specs.Listing.{heading}
 use Rattle.run.specs.Example.{exampleAxes}
 use Rattle.run.proofs.ExampleLaws.{example}
 use Rattle.theorems.specs.Example.{planText, ExampleListed, OfExample}
 
-read : reading planText ≡ accepted 4 0 exampleAxes
-unfolding any first anyPair before parts same areDigits decimal numberOf axisLength valueAt axisValues limit memoryOf drawOf nameOf
-    valuesOf badForm refusal kept axisLines drawLine memoryLine reading
+read : reading planText ≡ acceptedReading 4 0 exampleAxes
+unfolding any first anyPair inFront parts same areDigits digitsValue numberOf axisLength valueAt axisValues limit memoryOf drawOf nameOf
+    valuesOf badForm lineRefusal keptLines readAxes readDraw readMemory reading
 read = refl
 
 pub example-listed : ExampleListed

@@ -9,7 +9,7 @@ use lib.Arith.{digits-lt, digits-div, digits-mod}
 use Rattle.memory.proofs.Tests.{or-false-left, or-false-right}
 use Rattle.address.specs.Coordinate.{xOf, yOf, negative}
 use Rattle.address.specs.Address.{xyAddress}
-use Rattle.windows.specs.Kept.{Pixel, kept}
+use Rattle.windows.specs.Kept.{InRectangle, kept}
 use Rattle.windows.specs.declared.Rectangle.{Rectangle}
 use Rattle.walk.specs.declared.Walk.{Walk}
 use Rattle.walk.specs.Walk.{addressAt, addressOf, startAt, moved}
@@ -22,7 +22,7 @@ use Rattle.engine.specs.Engine.{destOf, srcOf}
 use Rattle.operation.specs.declared.Operation.{Operation}
 use Rattle.operation.specs.declared.Operation.the-variants.{FillL, FillXY, PixbltLL, PixbltLXY, PixbltXYL, PixbltXYXY, PixbltBL, PixbltBXY}
 use Rattle.operation.specs.Operation.{toXY, fromXY, sourceOf, copiesPixels}
-use Rattle.arrays.specs.Array.{rectangleOf, part, startX, startY, stepOf, linearSource, destStart, srcStart, drawingOf, drawingFor}
+use Rattle.arrays.specs.Array.{rectangleOf, clippedArray, startX, startY, stepOf, linearSource, destStart, srcStart, drawingOf, drawingFor}
 use Rattle.array_refusal.specs.Refusal.{badDest, badSource, negativeStart, refusal}
 use Rattle.array_refusal.proofs.RefusalLaws.{passes}
 use Rattle.slices.proofs.FootLaws.{and-false, starts}
@@ -75,12 +75,12 @@ xy-pixels PixbltBL e = absurd (false≢true e)
 xy-pixels PixbltBXY e = absurd (false≢true e)
 
 -- a linear destination is not clipped
-linear-left : (op : Operation) (s : Settings) → toXY op ≡ false → part op s .left ≡ 0
-unfolding part
+linear-left : (op : Operation) (s : Settings) → toXY op ≡ false → clippedArray op s .left ≡ 0
+unfolding clippedArray
 linear-left op s e = rw e
 
-linear-above : (op : Operation) (s : Settings) → toXY op ≡ false → part op s .above ≡ 0
-unfolding part
+linear-above : (op : Operation) (s : Settings) → toXY op ≡ false → clippedArray op s .above ≡ 0
+unfolding clippedArray
 linear-above op s e = rw e
 
 -- a start that is not negative
@@ -93,36 +93,36 @@ not-negative x y e = (
 module _ (op : Operation) (s : Settings) (place words : ℕ) (e : refusal op s place words ≡ 0)
     (i : ℕ) (h : i < pixels (drawingFor op s)) where
   abbrev badTo : Bool
-  badTo = badDest op s (part op s) (drawingFor op s)
+  badTo = badDest op s (clippedArray op s) (drawingFor op s)
 
   abbrev badFrom : Bool
-  badFrom = badSource op s (part op s) (drawingFor op s)
+  badFrom = badSource op s (clippedArray op s) (drawingFor op s)
 
   good : (badTo || badFrom) ≡ false
   good = starts op s place words (passes op s place words e) i h
 
   abbrev cols : ℕ
-  cols = part op s .cols
+  cols = clippedArray op s .cols
 
   abbrev left : ℕ
-  left = part op s .left
+  left = clippedArray op s .left
 
   abbrev above : ℕ
-  above = part op s .above
+  above = clippedArray op s .above
 
   -- the walk of an XY array whose start is not negative
-  walk-place : (start pitch : ℕ) → negativeStart start (part op s) ≡ false
+  walk-place : (start pitch : ℕ) → negativeStart start (clippedArray op s) ≡ false
       → addressOf
       (record {
-        start = xyAddress (s .offset) pitch (s .psize) (startX start (part op s)) (startY start (part op s));
+        start = xyAddress (s .offset) pitch (s .psize) (startX start (clippedArray op s)) (startY start (clippedArray op s));
         pitch = pitch;
         step = s .psize;
       })
       cols i
       ≡ xyAddress (s .offset) pitch (s .psize) (xOf start + columnOf op s i) (yOf start + rowOf op s i)
   walk-place start pitch n =
-      let p = not-negative (startX start (part op s)) (startY start (part op s)) n in
-      walk-xy (s .offset) pitch (s .psize) (startX start (part op s)) (startY start (part op s)) cols i (p .0) (p .1)
+      let p = not-negative (startX start (clippedArray op s)) (startY start (clippedArray op s)) n in
+      walk-xy (s .offset) pitch (s .psize) (startX start (clippedArray op s)) (startY start (clippedArray op s)) cols i (p .0) (p .1)
       ∙ ap₂ (λ (x y : ℕ). xyAddress (s .offset) pitch (s .psize) x y)
       (add-assoc (xOf start) left (i % cols)) (add-assoc (yOf start) above (i / cols))
 
@@ -140,19 +140,19 @@ module _ (op : Operation) (s : Settings) (place words : ℕ) (e : refusal op s p
       go : (t : Bool) → toXY op ≡ t
           → addressOf
           (startAt (destination s)
-          (cond t (xyAddress (s .offset) (s .dptch) (s .psize) (startX (s .daddr) (part op s)) (startY (s .daddr) (part op s))) (s .daddr)))
+          (cond t (xyAddress (s .offset) (s .dptch) (s .psize) (startX (s .daddr) (clippedArray op s)) (startY (s .daddr) (clippedArray op s))) (s .daddr)))
           cols i
           ≡ placeAt t (s .offset) (destination s) (columnOf op s i) (rowOf op s i)
       go true q =
           walk-place (s .daddr) (s .dptch)
-          (and-false (toXY op) _ q (or-false-left (toXY op && negativeStart (s .daddr) (part op s)) _ (or-false-left badTo badFrom good)))
+          (and-false (toXY op) _ q (or-false-left (toXY op && negativeStart (s .daddr) (clippedArray op s)) _ (or-false-left badTo badFrom good)))
       go false q = linear-place q
 
   -- an XY source's start is not negative, and its pixels are PSIZE apart
-  xy-source : fromXY op ≡ true → negativeStart (s .saddr) (part op s) ≡ false
+  xy-source : fromXY op ≡ true → negativeStart (s .saddr) (clippedArray op s) ≡ false
   xy-source q =
       and-false (fromXY op) _ q
-      (or-false-left (fromXY op && negativeStart (s .saddr) (part op s)) _
+      (or-false-left (fromXY op && negativeStart (s .saddr) (clippedArray op s)) _
       (and-false (copiesPixels (sourceOf op)) _ (ap copiesPixels (xy-pixels op q)) (or-false-right badTo badFrom good)))
 
   linear-source : addressOf (moved (linearSource op s) above left) cols i ≡ addressAt (linearSource op s) (rowOf op s i) (columnOf op s i)
@@ -165,7 +165,7 @@ module _ (op : Operation) (s : Settings) (place words : ℕ) (e : refusal op s p
     where
       -- where an XY source starts
       start : ℕ
-      start = xyAddress (s .offset) (s .sptch) (s .psize) (startX (s .saddr) (part op s)) (startY (s .saddr) (part op s))
+      start = xyAddress (s .offset) (s .sptch) (s .psize) (startX (s .saddr) (clippedArray op s)) (startY (s .saddr) (clippedArray op s))
 
       go : (t : Bool) → fromXY op ≡ t
           → addressOf (startAt (linearSource op s) (cond t start (addressAt (linearSource op s) above left))) cols i
@@ -181,13 +181,13 @@ module _ (op : Operation) (s : Settings) (place words : ℕ) (e : refusal op s p
 -- ---- the pixels visited are those kept
 module _ (op : Operation) (s : Settings) where
   abbrev rect : Rectangle
-  rect = kept (rectangleOf s) (part op s)
+  rect = kept (rectangleOf s) (clippedArray op s)
 
-  pub visited-kept : (i : ℕ) → i < pixels (drawingFor op s) → Pixel rect (xOf (s .daddr) + columnOf op s i) (yOf (s .daddr) + rowOf op s i)
+  pub visited-kept : (i : ℕ) → i < pixels (drawingFor op s) → InRectangle rect (xOf (s .daddr) + columnOf op s i) (yOf (s .daddr) + rowOf op s i)
   unfolding drawingOf
-  visited-kept i h = row-col (rect .cols) (rect .rows) i h (xOf (s .daddr)) (part op s .left) (yOf (s .daddr)) (part op s .above)
+  visited-kept i h = row-col (rect .cols) (rect .rows) i h (xOf (s .daddr)) (clippedArray op s .left) (yOf (s .daddr)) (clippedArray op s .above)
 
-  pub kept-visited : (x y : ℕ) → Pixel rect x y
+  pub kept-visited : (x y : ℕ) → InRectangle rect x y
       → (i : ℕ) × (i < pixels (drawingFor op s)) × (x ≡ xOf (s .daddr) + columnOf op s i) × (y ≡ yOf (s .daddr) + rowOf op s i)
   unfolding drawingOf
-  kept-visited x y p = number (rect .cols) (rect .rows) (xOf (s .daddr)) (part op s .left) (yOf (s .daddr)) (part op s .above) x y p
+  kept-visited x y p = number (rect .cols) (rect .rows) (xOf (s .daddr)) (clippedArray op s .left) (yOf (s .daddr)) (clippedArray op s .above) x y p

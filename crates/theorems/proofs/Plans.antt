@@ -17,7 +17,7 @@ use Rattle.points.proofs.ExperimentLaws.{experiment-named, experiment-other}
 use Rattle.points.proofs.OneToOne.{pointsOneToOne}
 use Rattle.plan.specs.Reading.{reading}
 use Rattle.plan.specs.declared.Plan.{Plan}
-use Rattle.plan.specs.Table.{room, stored, tableAfter}
+use Rattle.plan.specs.Table.{room, storedAxes, tableAfter}
 use Rattle.plan.proofs.SoundLaws.{reading-sound}
 use Rattle.plan.proofs.AcceptedLaws.{reading-accepted}
 use Rattle.plan.proofs.PlanLaws.{planOf-room, tableAfter-accepted}
@@ -31,7 +31,7 @@ pub numbers-are-experiments : NumbersAreExperiments
 numbers-are-experiments text e = pointsOneToOne (reading text .axes) (reading-sound text)
 
 -- the table of a plan that is accepted
-table-is : (text t : List ℕ) → room ≤ length t → reading text .answer ≡ 0 → tableAfter text t ≡ stored (reading text .axes) t
+table-is : (text t : List ℕ) → room ≤ length t → reading text .answer ≡ 0 → tableAfter text t ≡ storedAxes (reading text .axes) t
 table-is text t h e =
     tableAfter-accepted text t (ap (λ (p : Plan). p .answer) (planOf-room text t h) ∙ rw (eq-eqb (reading text .answer) 0 e))
 

@@ -33,7 +33,7 @@ use Rattle.run.proofs.RunLaws.{ranOver-refused, ranOver-done}
 use Rattle.run.proofs.LinesLaws.{pointLines-add}
 use Rattle.run.proofs.AnswerLaws.{endsPast-of-point, endsPast-of-none}
 use Rattle.run.proofs.ValuesLaws.{settings-kept-small}
-use Rattle.theorems.specs.Plans.{linesFrom}
+use Rattle.theorems.specs.Plans.{planLines}
 use Rattle.theorems.specs.Runs.{RefusedPoint, PointsAreWhole, PartIsListing, PartsAreOne, NumbersReadBack, OneWriting}
 use Rattle.theorems.specs.Runs.{OneField, CountFits, AnswersInOrder, ShownIsRun, OfRuns}
 use Rattle.theorems.proofs.WritingLaws.{numberOf-decimal}
@@ -78,16 +78,16 @@ part-is-listing text k h = rw (min-all (count (reading text .axes)) k h)
 -- the lines of two parts that follow one another, of so many points in all
 module _ (r : Reading) (c first j k : ℕ) where
   lines-within : j ≤ c - first
-      → linesFrom r first (min j (c - first)) ++ linesFrom r (first + j) (min k (c - (first + j)))
-      ≡ linesFrom r first (min (j + k) (c - first))
+      → planLines r first (min j (c - first)) ++ planLines r (first + j) (min k (c - (first + j)))
+      ≡ planLines r first (min (j + k) (c - first))
   lines-within h =
       let one : min j (c - first) ≡ j = omega arith in
       let both : min (j + k) (c - first) ≡ j + min k (c - (first + j)) = omega arith in
       rw (one, both) (sym (pointLines-add (r .words) (r .draw) (r .axes) first j (min k (c - (first + j)))))
 
   lines-past : c - first < j
-      → linesFrom r first (min j (c - first)) ++ linesFrom r (first + j) (min k (c - (first + j)))
-      ≡ linesFrom r first (min (j + k) (c - first))
+      → planLines r first (min j (c - first)) ++ planLines r (first + j) (min k (c - (first + j)))
+      ≡ planLines r first (min (j + k) (c - first))
   unfolding pointLines
   lines-past h =
       let one : min j (c - first) ≡ c - first = omega arith in
@@ -95,13 +95,13 @@ module _ (r : Reading) (c first j k : ℕ) where
       let both : min (j + k) (c - first) ≡ c - first = omega arith in
       rw (one, none, both) (append-nil _)
 
-  lines-join : linesFrom r first (min j (c - first)) ++ linesFrom r (first + j) (min k (c - (first + j)))
-      ≡ linesFrom r first (min (j + k) (c - first))
+  lines-join : planLines r first (min j (c - first)) ++ planLines r (first + j) (min k (c - (first + j)))
+      ≡ planLines r first (min (j + k) (c - first))
   lines-join = go (leb j (c - first)) refl
     where
       go : (b : Bool) → leb j (c - first) ≡ b
-          → linesFrom r first (min j (c - first)) ++ linesFrom r (first + j) (min k (c - (first + j)))
-          ≡ linesFrom r first (min (j + k) (c - first))
+          → planLines r first (min j (c - first)) ++ planLines r (first + j) (min k (c - (first + j)))
+          ≡ planLines r first (min (j + k) (c - first))
       go true e = lines-within (leb-true _ _ e)
       go false e = lines-past (leb-false _ _ e)
 
@@ -115,7 +115,7 @@ parts-are-one text first j k h = rw (ne-eqb (first + j) 0 (omega arith)) (go (eq
     bad = cond (eqb first 0) (refusedLine (reading text .answer) (reading text .line)) []
 
     lines : ℕ → ℕ → List ℕ
-    lines from n = linesFrom (reading text) from (min n (count (reading text .axes) - from))
+    lines from n = planLines (reading text) from (min n (count (reading text .axes) - from))
 
     go : (b : Bool) → cond b (front ++ lines first j) bad ++ cond b (lines (first + j) k) [] ≡ cond b (front ++ lines first (j + k)) bad
     go true =

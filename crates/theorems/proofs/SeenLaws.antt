@@ -7,8 +7,8 @@ use native.Mathlib.Decide.{decLt}
 use native.Mathlib.Omega.{arith}
 use borrow.Author.Tests.{not-true}
 use Rattle.control.specs.Control.{windowing}
-use Rattle.windows.specs.Kept.{Pixel, Seen}
-use Rattle.windows.specs.Window.{windowOf, empty, inside, common, meet, nothing, whole, clipped, vUnder}
+use Rattle.windows.specs.Kept.{InRectangle, Seen}
+use Rattle.windows.specs.Window.{windowOf, empty, inside, common, meet, nothing, unclipped, clipped, vUnder}
 use Rattle.windows.specs.Window as window
 use Rattle.windows.specs.declared.Rectangle.{Rectangle}
 use Rattle.windows.specs.declared.Window.{Window}
@@ -19,24 +19,24 @@ use Rattle.settings.specs.declared.Settings.{Settings}
 use Rattle.operation.specs.declared.Operation.{Operation}
 use Rattle.drawing.specs.declared.Outcome.{Outcome}
 use Rattle.operation.specs.Operation.{toXY}
-use Rattle.arrays.specs.Array.{rectangleOf, part, vAfter}
+use Rattle.arrays.specs.Array.{rectangleOf, clippedArray, vAfter}
 use Rattle.array_refusal.specs.Refusal.{refusal}
 use Rattle.drawing.specs.Draw.{outcomeAt, outcome}
 use Rattle.slices.proofs.OutcomeLaws.{outcome-accepted}
-use Rattle.theorems.specs.Windows.{Common, Outside, ByPixels}
+use Rattle.theorems.specs.Windows.{SomeInside, SomeOutside, ByPixels}
 
 module _ (r : Rectangle) (win : Window) where
-  pub meet-iff : (meet r win ≡ true) ↔ Common r win
+  pub meet-iff : (meet r win ≡ true) ↔ SomeInside r win
   meet-iff = (
     λ e. let p = pixel-of-meet r win e in (common r win .x, common r win .y, pixel-of-common r win _ _ p, seen-of-common r win _ _ p),
     λ (a, b, p, q). meet-of-pixel r win a b p q,
   )
 
-  pub inside-iff : empty r ≡ false → (inside r win ≡ true) ↔ ((a b : ℕ) → Pixel r a b → Seen win a b)
+  pub inside-iff : empty r ≡ false → (inside r win ≡ true) ↔ ((a b : ℕ) → InRectangle r a b → Seen win a b)
   inside-iff e = (seen-of-inside r win, inside-of-seen r win e)
 
   -- a pixel lies outside: the first of its row or column, or the last
-  outside-of-filled : empty r ≡ false → inside r win ≡ false → Outside r win
+  outside-of-filled : empty r ≡ false → inside r win ≡ false → SomeOutside r win
   outside-of-filled e i =
       let cols-pos : 0 < r .cols = positive-left (r .cols) (r .rows) e in
       let rows-pos : 0 < r .rows = positive-right (r .cols) (r .rows) e in
@@ -54,7 +54,7 @@ module _ (r : Rectangle) (win : Window) where
         ]
       ]
 
-  not-inside : (a b : ℕ) → Pixel r a b → (Seen win a b → ⊥) → inside r win ≡ false
+  not-inside : (a b : ℕ) → InRectangle r a b → (Seen win a b → ⊥) → inside r win ≡ false
   not-inside a b p n = go (inside r win) refl
     where
       go : (t : Bool) → inside r win ≡ t → t ≡ false
@@ -62,13 +62,13 @@ module _ (r : Rectangle) (win : Window) where
       go false e = refl
 
   -- ---- V, of an array that may be empty
-  meets-iff : ((not (empty r) && meet r win) ≡ true) ↔ Common r win
+  meets-iff : ((not (empty r) && meet r win) ≡ true) ↔ SomeInside r win
   meets-iff = (
     λ e. meet-iff .0 (and-eq-true-iff (not (empty r)) (meet r win) .0 e .1),
     λ (a, b, p, q). rw (filled-of-pixel r a b p) (meet-of-pixel r win a b p q),
   )
 
-  outside-iff : ((not (empty r) && not (inside r win)) ≡ true) ↔ Outside r win
+  outside-iff : ((not (empty r) && not (inside r win)) ≡ true) ↔ SomeOutside r win
   outside-iff = (
     λ e.
         let p = and-eq-true-iff (not (empty r)) (not (inside r win)) .0 e in
@@ -109,7 +109,7 @@ module _ (r : Rectangle) (win : Window) where
     unfolding clipped vUnder
     request-two = go (empty r) (inside r win)
       where
-        go : (e i : Bool) → cond e (nothing false) (cond i (whole r) (nothing true)) .request ≡ cond e false (not i)
+        go : (e i : Bool) → cond e (nothing false) (cond i (unclipped r) (nothing true)) .request ≡ cond e false (not i)
         go true i = refl
         go false true = refl
         go false false = refl
@@ -118,7 +118,7 @@ module _ (r : Rectangle) (win : Window) where
     unfolding clipped
     request-three = go (empty r)
       where
-        go : (e : Bool) → cond e (nothing false) (window.part r win) .request ≡ false
+        go : (e : Bool) → cond e (nothing false) (window.commonPart r win) .request ≡ false
         go true = refl
         go false = refl
 
@@ -144,11 +144,11 @@ module _ (op : Operation) (s : Settings) (v : Bool) where
   abbrev win : Window
   win = windowOf (s .wstart) (s .wend)
 
-  request-of : part op s .request ≡ cond (toXY op) (clipped w (rectangleOf s) win .request) false
-  unfolding part
+  request-of : clippedArray op s .request ≡ cond (toXY op) (clipped w (rectangleOf s) win .request) false
+  unfolding clippedArray
   request-of = go (toXY op)
     where
-      go : (t : Bool) → cond t (clipped w (rectangleOf s) win) (whole (rectangleOf s)) .request ≡ cond t (clipped w (rectangleOf s) win .request) false
+      go : (t : Bool) → cond t (clipped w (rectangleOf s) win) (unclipped (rectangleOf s)) .request ≡ cond t (clipped w (rectangleOf s) win .request) false
       go true = refl
       go false = refl
 

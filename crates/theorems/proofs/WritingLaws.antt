@@ -9,7 +9,7 @@ use native.Mathlib.Omega.{arith}
 use borrow.Author.Tests.{ltb-true, ltb-false, lt-ltb, le-leb, ne-eqb}
 use lib.Dec.{ltb}
 use Rattle.text.specs.Number.{isDigit, areDigits, digitsOf, numberOf}
-use Rattle.text.specs.Number.{decimal as valueFrom}
+use Rattle.text.specs.Number.{digitsValue as valueFrom}
 use Rattle.text.specs.declared.Number.the-variants.{Value}
 use Rattle.listing.specs.Listing.{digits, decimal}
 use Rattle.listing.proofs.ListingLaws.{digits-small, digits-large}

@@ -7,7 +7,7 @@ use Prim.Native.Nat.{ℕ, _+_, _*_, _/_, _%_, _^_, _≤_, _<_}
 use Rattle.memory.specs.Bits.{noMemory}
 use Rattle.address.specs.Coordinate.{coordinate, xOf, yOf, registerOf}
 use Rattle.address.specs.Address.{xyAddress}
-use Rattle.windows.specs.Kept.{Pixel, kept}
+use Rattle.windows.specs.Kept.{InRectangle, kept}
 use Rattle.walk.specs.declared.Walk.{Walk}
 use Rattle.walk.specs.Walk.{addressAt, addressOf}
 use Rattle.extent.specs.Extent.{leavesMemory}
@@ -16,7 +16,7 @@ use Rattle.plot.specs.Drawing.{pixels}
 use Rattle.engine.specs.Engine.{destOf, srcOf}
 use Rattle.operation.specs.declared.Operation.{Operation}
 use Rattle.operation.specs.Operation.{toXY, fromXY}
-use Rattle.arrays.specs.Array.{rectangleOf, part, linearSource, drawingFor}
+use Rattle.arrays.specs.Array.{rectangleOf, clippedArray, linearSource, drawingFor}
 use Rattle.array_refusal.specs.Refusal.{refusal}
 
 -- ---- coordinates
@@ -51,10 +51,10 @@ WalkInside =
 -- the column and the row of pixel i: those that clipping skips, and its own
 -- in what is drawn, row by row
 abbrev pub columnOf : Operation → Settings → ℕ → ℕ
-columnOf op s i = part op s .left + i % part op s .cols
+columnOf op s i = clippedArray op s .left + i % clippedArray op s .cols
 
 abbrev pub rowOf : Operation → Settings → ℕ → ℕ
-rowOf op s i = part op s .above + i / part op s .cols
+rowOf op s i = clippedArray op s .above + i / clippedArray op s .cols
 
 -- the address so many columns and rows from an array's start: of an XY array that of its own X and
 -- Y, else as the pitch and the step say
@@ -74,9 +74,9 @@ abbrev pub KeptIsVisited : Type 0
 KeptIsVisited =
     (op : Operation) (s : Settings)
     → ((i : ℕ) → i < pixels (drawingFor op s)
-    → Pixel (kept (rectangleOf s) (part op s))
+    → InRectangle (kept (rectangleOf s) (clippedArray op s))
     (xOf (s .daddr) + columnOf op s i) (yOf (s .daddr) + rowOf op s i))
-    × ((x y : ℕ) → Pixel (kept (rectangleOf s) (part op s)) x y
+    × ((x y : ℕ) → InRectangle (kept (rectangleOf s) (clippedArray op s)) x y
     → (i : ℕ) × (i < pixels (drawingFor op s))
     × (x ≡ xOf (s .daddr) + columnOf op s i) × (y ≡ yOf (s .daddr) + rowOf op s i))
 

@@ -11,7 +11,7 @@ use lib.ListN.{length}
 use Rattle.memory.specs.Bits.{mostWords, Memory, bitAt}
 use Rattle.memory.specs.Changed.{changedBits}
 use Rattle.field_refusal.specs.Size.{badSize, meant}
-use Rattle.field.specs.Field.{refusal, fieldRead, fieldWritten}
+use Rattle.field.specs.Field.{fieldRefusal, fieldRead, fieldWritten}
 use Rattle.timing.specs.Cycles.{isCase, cases, caseOf, holding}
 use Rattle.image.specs.Image.{image}
 
@@ -36,7 +36,7 @@ ChangedDecides =
 -- size, address and memory that the write is not refused on.
 abbrev pub ReadBack : Type 0
 ReadBack =
-    (m : List ℕ) (a n x : ℕ) → refusal (length m) a n ≡ 0
+    (m : List ℕ) (a n x : ℕ) → fieldRefusal (length m) a n ≡ 0
     → let back = fieldRead (fieldWritten m a n x) a n false in
     (back .answer ≡ 0) × (back .value ≡ x % 2 ^ meant n)
 
@@ -49,14 +49,14 @@ WriteFrame =
 -- Writing what was read changes nothing, zero or sign extended.
 abbrev pub WriteBack : Type 0
 WriteBack =
-    (m : List ℕ) (a n : ℕ) (signed : Bool) → Memory (length m) m → refusal (length m) a n ≡ 0
+    (m : List ℕ) (a n : ℕ) (signed : Bool) → Memory (length m) m → fieldRefusal (length m) a n ≡ 0
     → fieldWritten m a n (fieldRead m a n signed .value) ≡ m
 
 -- A field that would pass the end is refused with 17 and never wraps, at any address.
 abbrev pub PastEnd : Type 0
 PastEnd =
     (words a n : ℕ) → 0 < words → words ≤ mostWords → badSize n ≡ false → 16 * words < a + meant n
-    → refusal words a n ≡ 17
+    → fieldRefusal words a n ≡ 17
 
 -- Every alignment and number of bits is of exactly one of the cases A to G, and it is the one whose
 -- cycles and states are given.

@@ -6,7 +6,7 @@ use Prim.Native.Nat.{ℕ, _<_}
 use lib.ListN.{getD}
 use Rattle.ascii.specs.Ascii.{ascii}
 use Rattle.names.specs.Names.{names, nameCount, settingCount, seedAt}
-use Rattle.names.specs.Drawings.{drawings}
+use Rattle.names.specs.Drawings.{drawingNames}
 use Rattle.settings.specs.Settings.{inOrder}
 use Rattle.operation.specs.declared.Operation.{Operation}
 use Rattle.operation.specs.declared.Operation.the-variants.{FillL, FillXY, PixbltLL, PixbltLXY, PixbltXYL, PixbltXYXY, PixbltBL, PixbltBXY}
@@ -47,7 +47,7 @@ wordOf PixbltBL = ascii "PIXBLT B,L"
 wordOf PixbltBXY = ascii "PIXBLT B,XY"
 
 abbrev pub DrawingsNamed : Type 0
-DrawingsNamed = map wordOf operations ≡ drawings
+DrawingsNamed = map wordOf operations ≡ drawingNames
 
 -- every statement of this file
 pub record OfNames : Type 0 where

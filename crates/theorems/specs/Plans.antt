@@ -21,15 +21,15 @@ use Rattle.run.specs.Values.{asGiven}
 use Rattle.run.specs.Lines.{pointLines, longest, written}
 
 -- the lines of some points of a plan
-abbrev pub linesFrom : Reading → ℕ → ℕ → List ℕ
-linesFrom r first k = pointLines (r .words) (r .draw) (r .axes) first k
+abbrev pub planLines : Reading → ℕ → ℕ → List ℕ
+planLines r first k = pointLines (r .words) (r .draw) (r .axes) first k
 
 -- What a run of a plan writes: the heading and a line for each point; of a refused plan
 -- only `refused`, number, line.
 abbrev pub listing : List ℕ → List ℕ
 listing text =
     cond (eqb (reading text .answer) 0)
-    (heading ++ linesFrom (reading text) 0 (count (reading text .axes)))
+    (heading ++ planLines (reading text) 0 (count (reading text .axes)))
     (refusedLine (reading text .answer) (reading text .line))
 
 -- Of every accepted plan the numbers below the count and the experiments correspond one to one:
@@ -53,13 +53,13 @@ RunIsListing =
     → first + k ≤ count (reading text .axes) → longest * k ≤ size
     → written (reading text .words) (reading text .words) size (reading text .draw)
     (length (reading text .axes)) (tableAfter text t) first k
-    ≡ linesFrom (reading text) first k
+    ≡ planLines (reading text) first k
 
 -- Parts joined in order are the whole: a listing can be cut anywhere.
 abbrev pub PartsJoin : Type 0
 PartsJoin =
     (r : Reading) (first j k : ℕ)
-    → linesFrom r first (j + k) ≡ linesFrom r first j ++ linesFrom r (first + j) k
+    → planLines r first (j + k) ≡ planLines r first j ++ planLines r (first + j) k
 
 -- At every point the name of each axis has the axis's value at its index, and a
 -- name of no axis has its default.

@@ -14,7 +14,7 @@ use Rattle.cache.specs.declared.Cache.{Cache}
 use Rattle.cache.specs.declared.Kind.the-variants.{Refused}
 use Rattle.settings.specs.declared.Settings.{Settings}
 use Rattle.lone.specs.declared.Lone.{Lone}
-use Rattle.pixt.specs.Pixt.{drawnAt, pixtTo, pixtFrom}
+use Rattle.pixt.specs.Pixt.{loneDrawn, pixtTo, pixtFrom}
 use Rattle.drav.specs.Drav.{dravOf}
 use Rattle.operation.specs.declared.Operation.{Operation}
 use Rattle.array_refusal.specs.Refusal.{refusal}
@@ -65,7 +65,7 @@ PixtRefused =
     ≡ record { answer = l .answer; visited = 0; v = v; request = false; value = 0; settings = s })
     × (pixtFrom s v l m
     ≡ record { answer = l .answer; visited = 0; v = v; request = false; value = 0; settings = s })
-    × (drawnAt s l source m ≡ m)
+    × (loneDrawn s l source m ≡ m)
 
 -- DRAV: the point comes back as given too.
 abbrev pub DravRefused : Type 0
@@ -84,7 +84,7 @@ DravRefused =
 -- A field write, an image and a fetch.
 abbrev pub WriteRefused : Type 0
 WriteRefused =
-    (m : List ℕ) (a n x : ℕ) → (field.refusal (length m) a n ≡ 0 → ⊥)
+    (m : List ℕ) (a n x : ℕ) → (field.fieldRefusal (length m) a n ≡ 0 → ⊥)
     → field.fieldWritten m a n x ≡ m
 
 abbrev pub ImageRefused : Type 0

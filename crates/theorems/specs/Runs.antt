@@ -22,7 +22,7 @@ use Rattle.run.specs.declared.Ran.{Ran}
 use Rattle.run.specs.Run.{ranFor}
 use Rattle.run.specs.Values.{asGiven}
 use Rattle.run.specs.Lines.{badShape, answerOf}
-use Rattle.theorems.specs.Plans.{linesFrom, listing}
+use Rattle.theorems.specs.Plans.{planLines, listing}
 
 -- A refused point has its number, 10 to 17, and zeros.
 pub record RefusedPoint (r : Ran) : Type 0 where
@@ -44,23 +44,23 @@ PointsAreWhole =
 
 -- What is written of k points from a first one on, or as many as there are: the heading, or the
 -- line of a refused plan, stands before point 0.
-abbrev pub partOf : List ℕ → ℕ → ℕ → List ℕ
-partOf text first k =
+abbrev pub listingPart : List ℕ → ℕ → ℕ → List ℕ
+listingPart text first k =
     cond (eqb (reading text .answer) 0)
     (cond (eqb first 0) heading []
-    ++ linesFrom (reading text) first (min k (count (reading text .axes) - first)))
+    ++ planLines (reading text) first (min k (count (reading text .axes) - first)))
     (cond (eqb first 0) (refusedLine (reading text .answer) (reading text .line)) [])
 
 -- A part with all points is the listing.
 abbrev pub PartIsListing : Type 0
 PartIsListing =
-    (text : List ℕ) (k : ℕ) → count (reading text .axes) ≤ k → partOf text 0 k ≡ listing text
+    (text : List ℕ) (k : ℕ) → count (reading text .axes) ≤ k → listingPart text 0 k ≡ listing text
 
 -- Two parts that follow one another are one part, the heading and a refused plan's line included.
 abbrev pub PartsAreOne : Type 0
 PartsAreOne =
     (text : List ℕ) (first j k : ℕ) → 0 < first + j
-    → partOf text first j ++ partOf text (first + j) k ≡ partOf text first (j + k)
+    → listingPart text first j ++ listingPart text (first + j) k ≡ listingPart text first (j + k)
 
 -- Each number of 64 bits has one writing: what a listing writes, a plan's reader reads back; two
 -- numbers are not written as one, and two fields are not read as one number.

@@ -6,7 +6,7 @@ use mathlib.Core.Logic.{_↔_}
 use Prim.Native.Nat.{ℕ}
 use Rattle.control.specs.Control.{windowing}
 use Rattle.windows.specs.Window.{windowOf, empty, meet, inside, clipped, vUnder}
-use Rattle.windows.specs.Kept.{Pixel, Seen, kept}
+use Rattle.windows.specs.Kept.{InRectangle, Seen, kept}
 use Rattle.windows.specs.declared.Rectangle.{Rectangle}
 use Rattle.windows.specs.declared.Window.{Window}
 use Rattle.settings.specs.declared.Settings.{Settings}
@@ -20,42 +20,42 @@ use Rattle.drawing.specs.Draw.{outcome}
 abbrev pub KeptIsSeen : Type 0
 KeptIsSeen =
     (w : ℕ) (r : Rectangle) (win : Window) → (w ≡ 0 → ⊥)
-    → (a b : ℕ) → Pixel (kept r (clipped w r win)) a b
-    → Pixel r a b × Seen win a b
+    → (a b : ℕ) → InRectangle (kept r (clipped w r win)) a b
+    → InRectangle r a b × Seen win a b
 
 -- W 3 keeps every pixel of the rectangle that lies in the window.
 abbrev pub SeenIsKept : Type 0
 SeenIsKept =
-    (r : Rectangle) (win : Window) (a b : ℕ) → Pixel r a b → Seen win a b
-    → Pixel (kept r (clipped 3 r win)) a b
+    (r : Rectangle) (win : Window) (a b : ℕ) → InRectangle r a b → Seen win a b
+    → InRectangle (kept r (clipped 3 r win)) a b
 
 -- ---- "meet", "wholly inside" and V, by the pixels of rectangle and window
 
 -- a pixel of the rectangle lies in the window; one lies outside it
-abbrev pub Common : Rectangle → Window → Type 0
-Common r win = (a : ℕ) × (b : ℕ) × Pixel r a b × Seen win a b
+abbrev pub SomeInside : Rectangle → Window → Type 0
+SomeInside r win = (a : ℕ) × (b : ℕ) × InRectangle r a b × Seen win a b
 
-abbrev pub Outside : Rectangle → Window → Type 0
-Outside r win = (a : ℕ) × (b : ℕ) × Pixel r a b × (Seen win a b → ⊥)
+abbrev pub SomeOutside : Rectangle → Window → Type 0
+SomeOutside r win = (a : ℕ) × (b : ℕ) × InRectangle r a b × (Seen win a b → ⊥)
 
 -- The rectangles meet exactly where a pixel of the one lies in the other.
 abbrev pub MeetByPixels : Type 0
-MeetByPixels = (r : Rectangle) (win : Window) → (meet r win ≡ true) ↔ Common r win
+MeetByPixels = (r : Rectangle) (win : Window) → (meet r win ≡ true) ↔ SomeInside r win
 
 -- An array that is not empty lies wholly inside the window exactly where each of its pixels does.
 abbrev pub InsideByPixels : Type 0
 InsideByPixels =
     (r : Rectangle) (win : Window) → empty r ≡ false
-    → (inside r win ≡ true) ↔ ((a b : ℕ) → Pixel r a b → Seen win a b)
+    → (inside r win ≡ true) ↔ ((a b : ℕ) → InRectangle r a b → Seen win a b)
 
 -- V: W 0 leaves it as given; under W 1 it is 1 exactly where some pixel of the array lies in the
 -- window, under W 2 and 3 exactly where some pixel lies outside it (so that an empty array gives
 -- 0). W 1 and 2 raise a request with it, W 0 and 3 raise none.
 pub record ByPixels (r : Rectangle) (win : Window) (v : Bool) : Type 0 where
   pub v-0 : vUnder 0 r win v ≡ v
-  pub v-1 : (vUnder 1 r win v ≡ true) ↔ Common r win
-  pub v-2 : (vUnder 2 r win v ≡ true) ↔ Outside r win
-  pub v-3 : (vUnder 3 r win v ≡ true) ↔ Outside r win
+  pub v-1 : (vUnder 1 r win v ≡ true) ↔ SomeInside r win
+  pub v-2 : (vUnder 2 r win v ≡ true) ↔ SomeOutside r win
+  pub v-3 : (vUnder 3 r win v ≡ true) ↔ SomeOutside r win
   pub request-0 : clipped 0 r win .request ≡ false
   pub request-1 : clipped 1 r win .request ≡ vUnder 1 r win v
   pub request-2 : clipped 2 r win .request ≡ vUnder 2 r win v

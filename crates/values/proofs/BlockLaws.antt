@@ -17,7 +17,7 @@ use Rattle.text.specs.Text.{upTo}
 use Rattle.text.specs.Number.{numberOf, valueOf, isBad}
 use Rattle.text.specs.declared.Number.{Number}
 use Rattle.values.specs.declared.Block.{Block}
-use Rattle.values.specs.declared.Test.the-variants.{Above}
+use Rattle.values.specs.declared.FieldTest.the-variants.{Above}
 use Rattle.tabs.specs.Fields.{fieldsFrom, fieldValue, noNumber}
 use Rattle.values.specs.Tests.{passes}
 use Rattle.text.proofs.TextLaws.{upTo-le, part-take}

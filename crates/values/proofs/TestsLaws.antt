@@ -6,7 +6,7 @@ use Prim.Native.Nat.{ℕ, _+_}
 use native.Mathlib.Numerals.{add-one}
 use lib.Dec.{ltb, leb}
 use Rattle.lists.specs.Search.{any}
-use Rattle.values.specs.declared.Test.the-variants.{Above}
+use Rattle.values.specs.declared.FieldTest.the-variants.{Above}
 use Rattle.tabs.specs.Fields.{fieldValue}
 use Rattle.values.specs.Tests.{passes}
 

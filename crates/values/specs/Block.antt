@@ -5,7 +5,7 @@ use Prim.Native.Nat.{ℕ, _+_, _-_}
 use lib.ListN.{length, take, replicate}
 use Rattle.lists.specs.Search.{any}
 use Rattle.values.specs.declared.Block.{Block}
-use Rattle.values.specs.declared.Test.the-variants.{Above}
+use Rattle.values.specs.declared.FieldTest.the-variants.{Above}
 use Rattle.tabs.specs.Fields.{fieldsFrom, fieldValue, noNumber}
 use Rattle.values.specs.Tests.{passes}
 

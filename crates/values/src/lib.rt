@@ -8,13 +8,13 @@ ghost use Rattle.values.specs.Tests.{passes};
 ghost use Rattle.values.specs.Block.{BlockAt};
 
 // A test of a field.
-pub enum Test {
+pub enum FieldTest {
     NoNumber,
     Above(u64),
 }
 
 // Does some field from a place on pass a test?
-pub fn any_field(line: &[u8], from: usize, test: Test) -> bool
+pub fn any_field(line: &[u8], from: usize, test: FieldTest) -> bool
     ensures { λ r. ⌜ r ≡ any (passes test) (fieldsFrom (now (line .entry)) from) ⌝ }
 {
     let mut p = from;
@@ -123,12 +123,12 @@ pub fn any_among(line: &[u8], from: usize, held: &[u64]) -> bool
 }
 
 // Does a field pass a test?
-fn passes(field: &[u8], test: Test) -> bool
+fn passes(field: &[u8], test: FieldTest) -> bool
     ensures { λ r. ⌜ r ≡ passes test (now (field .entry)) ⌝ }
 {
     match test {
-        Test::NoNumber => tabs::no_number(field),
-        Test::Above(v) => v < tabs::field_value(field),
+        FieldTest::NoNumber => tabs::no_number(field),
+        FieldTest::Above(v) => v < tabs::field_value(field),
     }
 }
 

@@ -11,12 +11,12 @@ use Rattle.walk.proofs.Arithmetic.{positive-left, positive-right}
 use Rattle.windows.specs.declared.Rectangle.{Rectangle}
 use Rattle.windows.specs.declared.Window.{Window}
 use Rattle.windows.specs.declared.Clipped.{Clipped}
-use Rattle.windows.specs.Window.{before, shared, allIn, empty, inside, common, meet, nothing, whole, part, clipped, vUnder}
-use Rattle.windows.specs.Kept.{Pixel, Seen, kept}
+use Rattle.windows.specs.Window.{leading, shared, allIn, empty, inside, common, meet, nothing, unclipped, commonPart, clipped, vUnder}
+use Rattle.windows.specs.Kept.{InRectangle, Seen, kept}
 
 -- ---- what W means, case by case
 module _ (w : ℕ) (r : Rectangle) (win : Window) where
-  pub clipped-zero : w ≡ 0 → clipped w r win ≡ whole r
+  pub clipped-zero : w ≡ 0 → clipped w r win ≡ unclipped r
   unfolding clipped
   clipped-zero h = rw (eq-eqb w 0 h)
 
@@ -31,7 +31,7 @@ module _ (w : ℕ) (r : Rectangle) (win : Window) where
       clipped-one h = rw (ne-eqb w 0 nonzero, filled, eq-eqb w 1 h)
 
       module _ (not-one : w ≡ 1 → ⊥) where
-        pub clipped-two-inside : w ≡ 2 → inside r win ≡ true → clipped w r win ≡ whole r
+        pub clipped-two-inside : w ≡ 2 → inside r win ≡ true → clipped w r win ≡ unclipped r
         unfolding clipped
         clipped-two-inside h i = rw (ne-eqb w 0 nonzero, filled, ne-eqb w 1 not-one, eq-eqb w 2 h, i)
 
@@ -39,7 +39,7 @@ module _ (w : ℕ) (r : Rectangle) (win : Window) where
         unfolding clipped
         clipped-two-outside h i = rw (ne-eqb w 0 nonzero, filled, ne-eqb w 1 not-one, eq-eqb w 2 h, i)
 
-        pub clipped-three : (w ≡ 2 → ⊥) → clipped w r win ≡ part r win
+        pub clipped-three : (w ≡ 2 → ⊥) → clipped w r win ≡ commonPart r win
         unfolding clipped
         clipped-three h = rw (ne-eqb w 0 nonzero, filled, ne-eqb w 1 not-one, ne-eqb w 2 h)
 
@@ -57,7 +57,7 @@ module _ (c n lo hi : ℕ) where
   pub shared-le : shared c n lo hi ≤ n
   shared-le = omega arith
 
-  pub before-shared-le : 0 < shared c n lo hi → before c lo + shared c n lo hi ≤ n
+  pub before-shared-le : 0 < shared c n lo hi → leading c lo + shared c n lo hi ≤ n
   before-shared-le h = omega arith
 
   pub allIn-true : allIn c n lo hi ≡ true → (lo ≤ c) × (c + n ≤ suc hi)
@@ -70,12 +70,12 @@ module _ (c n lo hi : ℕ) where
 
 -- the whole, where W is 0 or the rectangle lies inside; nothing; or the common part
 module _ (w : ℕ) (r : Rectangle) (win : Window) (P : Clipped → Type 0) where
-  clipped-cases : ((w ≡ 0) ⊎ (inside r win ≡ true) → P (whole r)) → ((q : Bool) → P (nothing q)) → P (part r win) → P (clipped w r win)
+  clipped-cases : ((w ≡ 0) ⊎ (inside r win ≡ true) → P (unclipped r)) → ((q : Bool) → P (nothing q)) → P (commonPart r win) → P (clipped w r win)
   unfolding clipped
   clipped-cases all none some = go (eqb w 0) (empty r) (eqb w 1) (meet r win) (eqb w 2) (inside r win) refl refl
     where
       go : (z e o m t i : Bool) → eqb w 0 ≡ z → inside r win ≡ i
-          → P (cond z (whole r) (cond e (nothing false) (cond o (nothing m) (cond t (cond i (whole r) (nothing true)) (part r win)))))
+          → P (cond z (unclipped r) (cond e (nothing false) (cond o (nothing m) (cond t (cond i (unclipped r) (nothing true)) (commonPart r win)))))
       go true e o m t i p q = all (inl (eqb-true w 0 p))
       go false true o m t i p q = none false
       go false false true m t i p q = none m
@@ -106,20 +106,20 @@ clipped-fits w r win =
 -- ---- the common rectangle is the intersection
 
 module _ (r : Rectangle) (win : Window) (a b : ℕ) where
-  pub common-pixel : Pixel r a b → Seen win a b → Pixel (common r win) a b
+  pub common-pixel : InRectangle r a b → Seen win a b → InRectangle (common r win) a b
   unfolding common
   common-pixel p s = omega arith
 
-  pub pixel-of-common : Pixel (common r win) a b → Pixel r a b
+  pub pixel-of-common : InRectangle (common r win) a b → InRectangle r a b
   unfolding common
   pixel-of-common p = omega arith
 
-  pub seen-of-common : Pixel (common r win) a b → Seen win a b
+  pub seen-of-common : InRectangle (common r win) a b → Seen win a b
   unfolding common
   seen-of-common p = omega arith
 
 -- the common part is the common rectangle
-pub kept-part : (r : Rectangle) (win : Window) → kept r (part r win) ≡ common r win
+pub kept-part : (r : Rectangle) (win : Window) → kept r (commonPart r win) ≡ common r win
 unfolding common
 kept-part r win =
     λ i. record {
@@ -136,7 +136,7 @@ kept-part r win =
     down = omega arith
 
 -- a rectangle with a pixel is not empty
-pub filled-of-pixel : (r : Rectangle) (a b : ℕ) → Pixel r a b → empty r ≡ false
+pub filled-of-pixel : (r : Rectangle) (a b : ℕ) → InRectangle r a b → empty r ≡ false
 filled-of-pixel r a b p = rw (ne-eqb (r .cols) 0 (λ z. omega arith), ne-eqb (r .rows) 0 (λ z. omega arith))
 
 -- a rectangle that is not empty lies wholly inside the window exactly where all its pixels do
@@ -147,14 +147,14 @@ module _ (r : Rectangle) (win : Window) where
   down : Bool
   down = allIn (r .y) (r .rows) (win .top) (win .bottom)
 
-  pub seen-of-inside : inside r win ≡ true → (a b : ℕ) → Pixel r a b → Seen win a b
+  pub seen-of-inside : inside r win ≡ true → (a b : ℕ) → InRectangle r a b → Seen win a b
   unfolding across down
   seen-of-inside i a b p =
       let x = allIn-true (r .x) (r .cols) (win .left) (win .right) (and-eq-true-iff across down .0 i .0) in
       let y = allIn-true (r .y) (r .rows) (win .top) (win .bottom) (and-eq-true-iff across down .0 i .1) in
       omega (arith, x, y)
 
-  pub inside-of-seen : empty r ≡ false → ((a b : ℕ) → Pixel r a b → Seen win a b) → inside r win ≡ true
+  pub inside-of-seen : empty r ≡ false → ((a b : ℕ) → InRectangle r a b → Seen win a b) → inside r win ≡ true
   inside-of-seen e h =
       let cols-pos : 0 < r .cols = positive-left (r .cols) (r .rows) e in
       let rows-pos : 0 < r .rows = positive-right (r .cols) (r .rows) e in
@@ -168,36 +168,36 @@ module _ (r : Rectangle) (win : Window) where
       )
 
 -- what is kept are pixels of the rectangle
-pub pixel-of-kept : (w : ℕ) (r : Rectangle) (win : Window) (a b : ℕ) → Pixel (kept r (clipped w r win)) a b → Pixel r a b
+pub pixel-of-kept : (w : ℕ) (r : Rectangle) (win : Window) (a b : ℕ) → InRectangle (kept r (clipped w r win)) a b → InRectangle r a b
 unfolding common
 pixel-of-kept w r win a b =
-    clipped-cases w r win (λ (k : Clipped). Pixel (kept r k) a b → Pixel r a b)
+    clipped-cases w r win (λ (k : Clipped). InRectangle (kept r k) a b → InRectangle r a b)
     (λ why p. omega arith)
     (λ q p. absurd (omega arith))
     (λ p. omega arith)
 
 -- under W 1 to 3 they lie in the window
-pub seen-of-kept : (w : ℕ) (r : Rectangle) (win : Window) → (w ≡ 0 → ⊥) → (a b : ℕ) → Pixel (kept r (clipped w r win)) a b → Seen win a b
+pub seen-of-kept : (w : ℕ) (r : Rectangle) (win : Window) → (w ≡ 0 → ⊥) → (a b : ℕ) → InRectangle (kept r (clipped w r win)) a b → Seen win a b
 unfolding common
 seen-of-kept w r win nonzero a b =
-    clipped-cases w r win (λ (k : Clipped). Pixel (kept r k) a b → Seen win a b)
+    clipped-cases w r win (λ (k : Clipped). InRectangle (kept r k) a b → Seen win a b)
     (λ why p. ⊎-elim (λ z. absurd (nonzero z)) (λ i. seen-of-inside r win i a b (omega arith)) why)
     (λ q p. absurd (omega arith))
     (λ p. omega arith)
 
 -- under W 3 all pixels of the rectangle that lie in the window are kept
-pub kept-pixel : (r : Rectangle) (win : Window) (a b : ℕ) → Pixel r a b → Seen win a b → Pixel (kept r (clipped 3 r win)) a b
+pub kept-pixel : (r : Rectangle) (win : Window) (a b : ℕ) → InRectangle r a b → Seen win a b → InRectangle (kept r (clipped 3 r win)) a b
 unfolding common
 kept-pixel r win a b p s =
     rw (clipped-three 3 r win (λ z. omega arith) (filled-of-pixel r a b p) (λ z. omega arith) (λ z. omega arith)) (omega arith)
 
 -- ---- the rectangles meet exactly where they have a pixel in common
 module _ (r : Rectangle) (win : Window) where
-  pub meet-of-pixel : (a b : ℕ) → Pixel r a b → Seen win a b → meet r win ≡ true
+  pub meet-of-pixel : (a b : ℕ) → InRectangle r a b → Seen win a b → meet r win ≡ true
   meet-of-pixel a b p s = ap not (filled-of-pixel (common r win) a b (common-pixel r win a b p s))
 
   -- the upper left one
-  pub pixel-of-meet : meet r win ≡ true → Pixel (common r win) (common r win .x) (common r win .y)
+  pub pixel-of-meet : meet r win ≡ true → InRectangle (common r win) (common r win .x) (common r win .y)
   pixel-of-meet m =
       let e : empty (common r win) ≡ false = not-true (empty (common r win)) m in
       let cols-pos : 0 < common r win .cols = positive-left (common r win .cols) (common r win .rows) e in

@@ -4,7 +4,7 @@ ghost use Prim.Native.Nat.{_-_, max, min};
 ghost use Rattle.address.specs.Coordinate.{negative};
 ghost use Rattle.windows.specs.Window.{windowOf, badWindow, badWindowing, shared, allIn};
 ghost use Rattle.windows.specs.Window.{empty, inside, common, meet};
-ghost use Rattle.windows.specs.Window.{nothing, whole, part, clipped, vUnder};
+ghost use Rattle.windows.specs.Window.{nothing, unclipped, commonPart, clipped, vUnder};
 
 // A rectangle of pixels: its upper left coordinates, each held as itself plus 2^15, its columns and
 // its rows.
@@ -100,7 +100,7 @@ pub fn clip(w: u16, r: Rectangle, window: Window) -> Clipped
         }
         return nothing_of(true);
     }
-    part_of(r, window)
+    common_part(r, window)
 }
 
 // V after a call with an XY destination, by V as given.
@@ -195,7 +195,7 @@ fn nothing_of(request: bool) -> Clipped
 
 // The whole rectangle is drawn.
 fn whole_of(r: Rectangle) -> Clipped
-    ensures { λ c. ⌜ c ≡ whole r ⌝ }
+    ensures { λ c. ⌜ c ≡ unclipped r ⌝ }
 {
     Clipped {
         left: 0,
@@ -207,8 +207,8 @@ fn whole_of(r: Rectangle) -> Clipped
 }
 
 // The common part is drawn.
-fn part_of(r: Rectangle, w: Window) -> Clipped
-    ensures { λ c. ⌜ c ≡ part r w ⌝ }
+fn common_part(r: Rectangle, w: Window) -> Clipped
+    ensures { λ c. ⌜ c ≡ commonPart r w ⌝ }
 {
     let kept = common_of(r, w);
     Clipped {

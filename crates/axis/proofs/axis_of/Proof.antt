@@ -9,7 +9,7 @@ use denote.Ref.{now}
 use Rattle.text.specs.Text.{fieldsOf}
 use Rattle.axis.specs.declared.AxisLine.{AxisLine}
 use Rattle.line.specs.Line.{nameOf}
-use Rattle.axis.specs.Axis.{axisOf, badForm, badName, badValues, tooMany, refusal, axisLine}
+use Rattle.axis.specs.Axis.{axisOf, badForm, badName, badValues, tooMany, lineRefusal, axisLine}
 use Rattle.tabs.proofs.FieldsLaws.{fieldsFrom-thirdAt}
 use Rattle.axis.proofs.AxisLaws.{axisLine-is}
 use Rattle.values.proofs.BlockLaws.{held-of}
@@ -42,7 +42,7 @@ axes d = start d .args .axes
 told : (d : tie.After-bad-form) {number : ℕ} {r : AxisLine}
     → let b = d .before .before .before in
     r ≡ (record { refusal = number; name = b .before .before .name-of .result; count = b .block-at .result .count })
-    → number ≡ refusal (seen d) (axes d) (fields d) → r ≡ axisLine (seen d) (axes d) (fields d)
+    → number ≡ lineRefusal (seen d) (axes d) (fields d) → r ≡ axisLine (seen d) (axes d) (fields d)
 told d is lowest =
     let b = d .before .before .before in
     let n = b .before .before in
@@ -82,18 +82,18 @@ many c =
     tooMany-thirdAt (held-of (b .block-at .ensures)) (axes d) (t .third-at .ensures) ∙ sym (c .too-many .ensures)
 
 returns : tie.Need-returns
-unfolding refusal
+unfolding lineRefusal
 returns c = let d = c .before .before in told d (c .axis-line .ensures) (rw (form d ∙ c .before .if1 .taken))
 
 returns-2 : tie.Need-returns-2
-unfolding refusal
+unfolding lineRefusal
 returns-2 c =
     let n = c .before .before in
     let d = n .before .before .before in
     told d (c .axis-line2 .ensures) (rw (form d ∙ n .before .before .if1 .left, named n ∙ c .before .if2 .taken))
 
 returns-3 : tie.Need-returns-3
-unfolding refusal
+unfolding lineRefusal
 returns-3 c =
     let v = c .before .before in
     let n = v .before .before in
@@ -102,7 +102,7 @@ returns-3 c =
     (rw (form d ∙ n .before .before .if1 .left, named n ∙ v .before .if2 .left, valued v ∙ c .before .if3 .taken))
 
 returns-4 : tie.Need-returns-4
-unfolding refusal
+unfolding lineRefusal
 returns-4 c =
     let m = c .before .before in
     let v = m .before .before in
@@ -113,7 +113,7 @@ returns-4 c =
     (rw (form d ∙ f .if1 .left, named n ∙ v .before .if2 .left, valued v ∙ m .before .if3 .left, many m ∙ c .before .if4 .taken))
 
 returns-5 : tie.Need-returns-5
-unfolding refusal
+unfolding lineRefusal
 returns-5 c =
     let m = c .before .before in
     let v = m .before .before in

@@ -2,8 +2,8 @@
 use mathlib.Core.Path.{ap, _∙_}
 use Rattle.lone.specs.declared.Lone.{Lone}
 use Rattle.lone.specs.Lone.{xyDestination}
-use Rattle.pixt.specs.Pixt.{drawnAt}
-use Rattle.drav.specs.Drav.{colorAt, dravOf}
+use Rattle.pixt.specs.Pixt.{loneDrawn}
+use Rattle.drav.specs.Drav.{pointColor, dravOf}
 use borrow.Author.Needs.{needs}
 use Rattle.drav.proofs.drav.Statement.{statement}
 use Rattle.drav.proofs.drav.Tie as tie
@@ -32,7 +32,7 @@ returns c =
     let e = x .xy-destination .ensures in (
       c .done-drav .ensures ∙ ap (dravOf (a .s) (a .v) (a .point) (a .step)) e,
       d .draw .ensures
-          ∙ ap (λ (l : Lone). drawnAt (a .s) l (colorAt (a .s) (l .address)) (a .memory .now)) e,
+          ∙ ap (λ (l : Lone). loneDrawn (a .s) l (pointColor (a .s) (l .address)) (a .memory .now)) e,
     )
 
 pub drav-spec : {M : Type 1} → statement M

@@ -9,16 +9,16 @@ use Rattle.windows.specs.declared.Clipped.{Clipped}
 use Rattle.plot.specs.Drawing.{pixels}
 use Rattle.engine.specs.Engine.{visits, visitedFrom}
 use Rattle.plot.specs.declared.Drawing.{Drawing}
-use Rattle.arrays.specs.Array.{part, vAfter, drawingOf, drawingFor}
+use Rattle.arrays.specs.Array.{clippedArray, vAfter, drawingOf, drawingFor}
 use Rattle.array_refusal.specs.Refusal.{refusalOf, refusal}
-use Rattle.drawing.specs.Draw.{refused, outcomeAt, visitedBy, outcome, drawn}
+use Rattle.drawing.specs.Draw.{refusedCall, outcomeAt, visitedBy, outcome, drawn}
 use Rattle.array_refusal.proofs.RefusalLaws.{place-le}
 use Rattle.drawing.proofs.draw.Statement.{statement}
 use Rattle.drawing.proofs.draw.Tie as tie
 
 -- the drawing and the refusal are the definition's
 drawing-is : (c : tie.After-drawing-of) → c .drawing-of .result ≡ drawingFor (c .before .before .before .args .op) (c .before .before .before .args .s)
-drawing-is c = c .drawing-of .ensures ∙ ap (drawingOf (c .before .before .before .args .op) (c .before .before .before .args .s)) (c .before .part-of .ensures)
+drawing-is c = c .drawing-of .ensures ∙ ap (drawingOf (c .before .before .before .args .op) (c .before .before .before .args .s)) (c .before .clipped-array .ensures)
 
 refusal-is : (c : tie.After-refusal-of)
     → c .refusal-of .result ≡ refusal (c .before .before .before .before .args .op) (c .before .before .before .before .args .s) (c .before .before .before .before .args .place) (length (c .before .before .before .before .args .memory .now))
@@ -26,10 +26,10 @@ unfolding refusal
 refusal-is c =
     let x = c .before .before .before .before .args in
     c .refusal-of .ensures
-    ∙ ap₂ (λ (k : Clipped) (d : Drawing). refusalOf (x .op) (x .s) k d (x .place) (length (x .memory .now))) (c .before .before .part-of .ensures) (drawing-is (c .before))
+    ∙ ap₂ (λ (k : Clipped) (d : Drawing). refusalOf (x .op) (x .s) k d (x .place) (length (x .memory .now))) (c .before .before .clipped-array .ensures) (drawing-is (c .before))
 
-part-of-requires : tie.Need-part-of-requires
-part-of-requires c κs = search needs
+clipped-array-requires : tie.Need-clipped-array-requires
+clipped-array-requires c κs = search needs
 
 drawing-of-requires : tie.Need-drawing-of-requires
 drawing-of-requires c κs = search needs
@@ -46,7 +46,7 @@ returns c =
     let r = c .before .before in
     let x = r .before .before .before .before .args in
     let nz : refusal (x .op) (x .s) (x .place) (length (x .memory .now)) ≡ 0 → ⊥ = λ z. c .before .if1 .taken (refusal-is r ∙ z) in
-    (rw (ne-eqb _ _ nz) (c .refused .ensures ∙ ap (λ (a : ℕ). refused (x .s) (x .place) (x .v) a) (refusal-is r)), rw (ne-eqb _ _ nz))
+    (rw (ne-eqb _ _ nz) (c .refused .ensures ∙ ap (λ (a : ℕ). refusedCall (x .s) (x .place) (x .v) a) (refusal-is r)), rw (ne-eqb _ _ nz))
 
 run-requires : tie.Need-run-requires
 run-requires c κs = search needs
@@ -78,7 +78,7 @@ returns-2 c =
     let d = r .before in
     let x = d .before .before .before .args in
     let z : refusal (x .op) (x .s) (x .place) (length (x .memory .now)) ≡ 0 = sym (refusal-is r) ∙ u .before .before .if1 .left in
-    let part-is : d .before .part-of .result ≡ part (x .op) (x .s) = d .before .part-of .ensures in
+    let part-is : d .before .clipped-array .result ≡ clippedArray (x .op) (x .s) = d .before .clipped-array .ensures in
     let drawing : d .drawing-of .result ≡ drawingFor (x .op) (x .s) = drawing-is d in
     let v-is : c .before .before .v-after .result ≡ vAfter (x .op) (x .s) (x .v) = c .before .before .v-after .ensures in
     let visited-is : u .run .result ≡ visitedFrom (drawingFor (x .op) (x .s)) (x .place) (x .budget) = u .run .ensures .0 ∙ ap (λ (e : Drawing). visitedFrom e (x .place) (x .budget)) drawing in
@@ -89,7 +89,7 @@ pub draw-spec : {M : Type 1} → statement M
 draw-spec =
     tie.close
     (tie.spec
-    part-of-requires
+    clipped-array-requires
     drawing-of-requires
     refusal-of-requires
     refused-requires

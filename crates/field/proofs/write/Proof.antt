@@ -3,12 +3,12 @@ use mathlib.Core.Path.{_≡_, sym, _∙_}
 use borrow.Author.Needs.{needs}
 use borrow.Author.Tests.{eq-eqb, ne-eqb}
 use lib.ListN.{length}
-use Rattle.field.specs.Field.{refusal, fieldWritten}
+use Rattle.field.specs.Field.{fieldRefusal, fieldWritten}
 use Rattle.field_refusal.proofs.RefusalLaws.{accepted}
 use Rattle.field.proofs.write.Statement.{statement}
 use Rattle.field.proofs.write.Tie as tie
 
-none : (c : tie.Else1) → let x = c .before .before .before .args in refusal (length (x .memory .now)) (x .address) (x .size) ≡ 0
+none : (c : tie.Else1) → let x = c .before .before .before .args in fieldRefusal (length (x .memory .now)) (x .address) (x .size) ≡ 0
 none c = sym (c .before .refusal-of .ensures) ∙ c .if1 .left
 
 returns : tie.Need-returns

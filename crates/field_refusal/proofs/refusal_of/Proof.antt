@@ -8,7 +8,7 @@ use borrow.Author.Tests.{le-leb, lt-leb}
 use Rattle.memory.specs.Bits.{noMemory}
 use Rattle.memory.proofs.Tests.{sized}
 use Rattle.field_refusal.specs.Size.{badSize}
-use Rattle.field_refusal.specs.Refusal.{refusal}
+use Rattle.field_refusal.specs.Refusal.{fieldRefusal}
 use Rattle.field_refusal.proofs.RefusalLaws.{good-size}
 use Rattle.field_refusal.proofs.refusal_of.Statement.{statement}
 use Rattle.field_refusal.proofs.refusal_of.Tie as tie
@@ -21,11 +21,11 @@ past-18 : (c : tie.Else2) → let e = c .before .before in badSize (e .before .b
 past-18 c = sym (c .before .bad-size .ensures) ∙ c .if2 .left
 
 returns : tie.Need-returns
-unfolding refusal
+unfolding fieldRefusal
 returns c = rw (sym (c .before .no-memory .ensures), c .if1 .taken)
 
 returns-2 : tie.Need-returns-2
-unfolding refusal
+unfolding fieldRefusal
 returns-2 c = rw (past-10 (c .before .before), sym (c .before .bad-size .ensures), c .if2 .taken)
 
 mul-if3 : tie.Need-mul-if3
@@ -34,7 +34,7 @@ mul-if3 c =
     record { fits = omega (arith, sized (e .before .before .args .words) (past-10 e) .most) }
 
 returns-3 : tie.Need-returns-3
-unfolding refusal
+unfolding fieldRefusal
 returns-3 c =
     let b = c .before in
     let e = b .before .before .before in
@@ -44,7 +44,7 @@ returns-3 c =
     rw (past-10 e, past-18 (b .before), ← b .meant .ensures, past)
 
 returns-4 : tie.Need-returns-4
-unfolding refusal
+unfolding fieldRefusal
 returns-4 c =
     let b = c .before in
     let e = b .before .before .before in

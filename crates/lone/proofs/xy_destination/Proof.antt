@@ -18,7 +18,7 @@ returns c =
       v .before .windowed .ensures,
       window .bad-window-of .ensures,
       window .before .bad-xy-pitch .ensures,
-      window .before .before .place-of .ensures,
+      window .before .before .pixel-address .ensures,
     )
 
 pub xy-destination-spec : {M : Type 1} → statement M

@@ -8,7 +8,7 @@ returns : tie.Need-returns
 unfolding xySource
 returns c =
     let pitch = c .before .before in
-    rw (c .refusal-of .ensures, c .before .bad-start .ensures, pitch .bad-xy-pitch .ensures, pitch .before .place-of .ensures)
+    rw (c .refusal-of .ensures, c .before .bad-start .ensures, pitch .bad-xy-pitch .ensures, pitch .before .pixel-address .ensures)
 
 pub xy-source-spec : {M : Type 1} → statement M
 xy-source-spec =

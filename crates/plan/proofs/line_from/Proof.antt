@@ -4,13 +4,13 @@ use Prim.Native.Nat.{_-_}
 use native.Mathlib.Omega.{arith}
 use borrow.Author.Needs.{needs}
 use lib.ListN.{length}
-use Rattle.plan.specs.Cursor.{Reached}
+use Rattle.plan.specs.Cursor.{FoundLine}
 use Rattle.plan.proofs.CursorLaws.{reached-here, reached-next, end-le}
 use Rattle.plan.proofs.line_from.Statement.{statement}
 use Rattle.plan.proofs.line_from.Tie as tie
 
 abbrev Inv-loop : tie.InvT-loop
-Inv-loop text from number at₀ end₀ line₀ at end line = Reached text from number (record { at = at; end = end; line = line })
+Inv-loop text from number at₀ end₀ line₀ at end line = FoundLine text from number (record { at = at; end = end; line = line })
 
 abbrev μ-loop : tie.MeasureT-loop
 μ-loop text from number at₀ end₀ line₀ at end line = length text - at

@@ -48,8 +48,8 @@ use denote.Triple.Clauses.{ensured, lasts}
 use Rattle.plan.specs.declared.Cursor.{Cursor}
 use Rattle.plan.specs.declared.Reader.{Reader}
 use Rattle.plan.specs.declared.State.{State}
-use Rattle.plan.specs.Cursor.{Place, Next}
-use Rattle.plan.specs.State.{nothingRead, Reads, Read, After}
+use Rattle.plan.specs.Cursor.{PositionIn, NextLine}
+use Rattle.plan.specs.State.{nothingRead, LinesRead, PlanRead, LineRead}
 use Rattle.plan.proofs.CursorLaws.{next-here, next-place}
 use Rattle.plan.proofs.TurnLaws.{reads-none, reads-next, next-fits}
 use Rattle.plan.proofs.ReaderLaws.{R, D, L, textVal, TextOwn, ReaderOwn, text-twice, reader-in}
@@ -238,20 +238,20 @@ module _ {M : Type 1} (𝓤 : URA M) (H : Heap 𝓤) (A : Atoms 𝓤) (W : Given
   abbrev to-ask : ℕ → ℕ → Asking 𝓤 H A mem run .Ghost
   to-ask n m = (((κ, tt), (q, tt), tt, (rd n m, tt), (T′.lowered (rd n m) ∷ [], tt)), tt)
 
-  goes-ask : (n m : ℕ) → Place text n m → ent 𝓤 (⋆ 𝓤 H A (‵ (ReaderOwn κ (rd n m)) ∷ token ∷ [])) (Asking 𝓤 H A mem run .pre (to-ask n m))
+  goes-ask : (n m : ℕ) → PositionIn text n m → ent 𝓤 (⋆ 𝓤 H A (‵ (ReaderOwn κ (rd n m)) ∷ token ∷ [])) (Asking 𝓤 H A mem run .pre (to-ask n m))
   goes-ask n m p = qed W (‵ (ReaderOwn κ (rd n m)) ∷ token ∷ []) ∵ says ! p $ nothing ! $ move ! (1 ∷ 0 ∷ []) $ fjoin ! $ move ! (1 ∷ 0 ∷ []) $ frame ! $ done !
 
   abbrev Asked : ℕ → ℕ → Cursor → SProp 𝓤
   Asked n m c = ensured 𝓤 H A next.ended (next.clauses 𝓤 H A mem run) (κ, tt) (rd n m, tt) tt c
 
-  asked : (n m : ℕ) (c : Cursor) → ent 𝓤 (Asked n m c) (fact 𝓤 (Next text n m c))
-  asked n m c = exE 𝓤 _ (λ ws. snd∗ 𝓤 (sem 𝓤 H A (lasts next.ended (κ, tt) (rd n m, tt) ws)) (fact 𝓤 (Next text n m c)))
+  asked : (n m : ℕ) (c : Cursor) → ent 𝓤 (Asked n m c) (fact 𝓤 (NextLine text n m c))
+  asked n m c = exE 𝓤 _ (λ ws. snd∗ 𝓤 (sem 𝓤 H A (lasts next.ended (κ, tt) (rd n m, tt) ws)) (fact 𝓤 (NextLine text n m c)))
 
   -- of `taken`
   abbrev to-take : Cursor → State → Taking 𝓤 H A mem run .Ghost
   to-take c x = (((κ, tt), (q, tt), tt, (s, (c, (x, tt))), (textVal s ∷ [], (S′.lowered c ∷ [], (stateVal x ∷ [], tt)))), tt)
 
-  goes-take : (c : Cursor) (x : State) → Next text (c .at) (c .line) c → Reads text x (c .at) (c .line)
+  goes-take : (c : Cursor) (x : State) → NextLine text (c .at) (c .line) c → LinesRead text x (c .at) (c .line)
       → ent 𝓤 (⋆ 𝓤 H A (‵ (owns (ShrSlice (named 0) κ u8 ∷ S.the-row ∷ Q.the-row ∷ []) (s, (c, (x, tt))) (textVal s ∷ [], (S′.lowered c ∷ [], (stateVal x ∷ [], tt)))) ∷ token ∷ []))
       (Taking 𝓤 H A mem run .pre (to-take c x))
   goes-take c x n r =
@@ -261,8 +261,8 @@ module _ {M : Type 1} (𝓤 : URA M) (H : Heap 𝓤) (A : Atoms 𝓤) (W : Given
   abbrev Took : Cursor → State → State → SProp 𝓤
   Took c x x′ = ensured 𝓤 H A taken.ended (taken.clauses 𝓤 H A mem run) (κ, tt) (s, (c, (x, tt))) tt x′
 
-  took : (c : Cursor) (x x′ : State) → ent 𝓤 (Took c x x′) (fact 𝓤 (After text c x′))
-  took c x x′ = exE 𝓤 _ (λ ws. snd∗ 𝓤 (sem 𝓤 H A (lasts taken.ended (κ, tt) (s, (c, (x, tt))) ws)) (fact 𝓤 (After text c x′)))
+  took : (c : Cursor) (x x′ : State) → ent 𝓤 (Took c x x′) (fact 𝓤 (LineRead text c x′))
+  took c x x′ = exE 𝓤 _ (λ ws. snd∗ 𝓤 (sem 𝓤 H A (lasts taken.ended (κ, tt) (s, (c, (x, tt))) ws)) (fact 𝓤 (LineRead text c x′)))
 
   -- of `behind`
   abbrev to-move : ℕ → ℕ → Cursor → Moving 𝓤 H A mem run .Ghost
@@ -281,7 +281,7 @@ module _ {M : Type 1} (𝓤 : URA M) (H : Heap 𝓤) (A : Atoms 𝓤) (W : Given
   moved : (n m : ℕ) (c : Cursor) (d : Reader) → ent 𝓤 (Moved n m c d) (fact 𝓤 (Is-at (c .end + 1) (c .line + 1) d))
   moved n m c d = exE 𝓤 _ (λ ws. snd∗ 𝓤 (sem 𝓤 H A (lasts behind.ended (κ, tt) (rd n m, (c, tt)) ws)) (fact 𝓤 (Is-at (c .end + 1) (c .line + 1) d)))
 
-  exits : (x : State) → Read text x → ent 𝓤 (⋆ 𝓤 H A (‵ (StateOwn x) ∷ token ∷ ‵ (TextOwn κ s) ∷ [])) (Post (stateVal x))
+  exits : (x : State) → PlanRead text x → ent 𝓤 (⋆ 𝓤 H A (‵ (StateOwn x) ∷ token ∷ ‵ (TextOwn κ s) ∷ [])) (Post (stateVal x))
   exits x r =
       qed W (‵ (StateOwn x) ∷ token ∷ ‵ (TextOwn κ s) ∷ []) ∵
       suffices ! _ (ends-at 𝓤 H A read-lines.ended stayed (read-lines.clauses 𝓤 H A mem run) W (((κ, tt), (q, tt), tt, (s, tt), passed), tt) (stateVal x) x (tt, tt) (tt, tt)) $
@@ -333,8 +333,8 @@ module _ {M : Type 1} (𝓤 : URA M) (H : Heap 𝓤) (A : Atoms 𝓤) (W : Given
     Left = afterBlock 𝓤 H (afterSeq 𝓤 H (Wp 𝓤 H C Λ En rest (atReturn 𝓤 H En Post)) (atReturn 𝓤 H En Post))
 
     -- a turn that goes on: a line is read, and the reader is put behind it
-    more-turn : (n m : ℕ) (x : State) (X : SProp 𝓤) → x .wanted ≡ true → Place text n m → Reads text x n m
-        → ((c : Cursor) (x′ : State) → Next text n m c → After text c x′ → ent 𝓤 (⋆ 𝓤 H A (At (c .end + 1) (c .line + 1) x′)) X)
+    more-turn : (n m : ℕ) (x : State) (X : SProp 𝓤) → x .wanted ≡ true → PositionIn text n m → LinesRead text x n m
+        → ((c : Cursor) (x′ : State) → NextLine text n m c → LineRead text c x′ → ent 𝓤 (⋆ 𝓤 H A (At (c .end + 1) (c .line + 1) x′)) X)
         → ent 𝓤 (⋆ 𝓤 H A (At n m x)) (Wp 𝓤 H C Λ En turn (afterTurn 𝓤 H X Left))
     unfolding afterTurn
     more-turn n m x X wanted p r k =
@@ -349,7 +349,7 @@ module _ {M : Type 1} (𝓤 : URA M) (H : Heap 𝓤) (A : Atoms 𝓤) (W : Given
         -- [what `next` asks; what the text owns; _2; _3; what the state owns; room for _4; _5; _6; room for _7; room for _8; _1; room for _0; …]
         calls-at ! fm (Asking 𝓤 H A mem run) asks (to-ask n m) (and-then ! (load ! (from ! (stop !)) (look ! 7 refl)) (no-more !)) (λ u.
         use1 W (later (some (λ (c : Cursor). (token ⊛ ‵ (S.the-row .own c (u ∷ []))) ⊛ raw (Asked n m c)))) (id⊢ 𝓤 _) $ await ! tt $ pick ! (λ c.
-        split ! $ move ! (1 ∷ []) $ use1 W (raw (fact 𝓤 (Next text n m c))) (asked n m c) $ heard ! (Next text n m c) (λ e. split ! $ move ! (1 ∷ []) $
+        split ! $ move ! (1 ∷ []) $ use1 W (raw (fact 𝓤 (NextLine text n m c))) (asked n m c) $ heard ! (NextLine text n m c) (λ e. split ! $ move ! (1 ∷ []) $
         -- [what the line owns; the token; what the text owns; _2; _3; what the state owns; room for _4; _5; _6; room for _7; …]
         peeks ! S.the-row (Is S.the-row) (shows 𝓤 H A S.the-row) c (u ∷ []) (λ is.
         land ! (from ! (stop !)) (init ! 6 refl (LL.lawful S.the-type S′.the-laws 𝓤 H A W .typed c _ is .0)) $
@@ -365,7 +365,7 @@ module _ {M : Type 1} (𝓤 : URA M) (H : Heap 𝓤) (A : Atoms 𝓤) (W : Given
         calls-at ! fm (Taking 𝓤 H A mem run) takes (to-take c x) (and-then ! (load ! (from ! (stop !)) (look ! 8 refl))
         (and-then ! (load ! (from ! (stop !)) (look ! 5 refl)) (and-then ! (load ! (from ! (stop !)) (look ! 4 refl)) (no-more !)))) (λ u′.
         use1 W (later (some (λ (x′ : State). (token ⊛ ‵ (Q.the-row .own x′ (u′ ∷ []))) ⊛ raw (Took c x x′)))) (id⊢ 𝓤 _) $ await ! tt $ pick ! (λ x′.
-        split ! $ move ! (1 ∷ []) $ use1 W (raw (fact 𝓤 (After text c x′))) (took c x x′) $ heard ! (After text c x′) (λ a. split ! $ move ! (1 ∷ []) $
+        split ! $ move ! (1 ∷ []) $ use1 W (raw (fact 𝓤 (LineRead text c x′))) (took c x x′) $ heard ! (LineRead text c x′) (λ a. split ! $ move ! (1 ∷ []) $
         -- [what the new state owns; the token; what the text owns; what the line owns; _2; _3; _4; _5; _6; _7; room for _8; …]
         peeks ! Q.the-row (Is Q.the-row) (shows 𝓤 H A Q.the-row) x′ (u′ ∷ []) (λ is′.
         land ! (from ! (stop !)) (store ! 5 refl (LL.lawful Q.the-type Q′.the-laws 𝓤 H A W .typed x′ _ is′ .0)) $
@@ -397,7 +397,7 @@ module _ {M : Type 1} (𝓤 : URA M) (H : Heap 𝓤) (A : Atoms 𝓤) (W : Given
         m-fits = omega (arith, p .within, p .numbered, small)
 
     -- the turn that leaves the loop, and the rest of the body
-    ends : (n m : ℕ) (x : State) (X : SProp 𝓤) → x .wanted ≡ false → Read text x → ent 𝓤 (⋆ 𝓤 H A (At n m x)) (Wp 𝓤 H C Λ En turn (afterTurn 𝓤 H X Left))
+    ends : (n m : ℕ) (x : State) (X : SProp 𝓤) → x .wanted ≡ false → PlanRead text x → ent 𝓤 (⋆ 𝓤 H A (At n m x)) (Wp 𝓤 H C Λ En turn (afterTurn 𝓤 H X Left))
     unfolding afterTurn
     ends n m x X wanted r =
         qed W (At n m x) ∵ exec ! C Λ En turn (anyQ (afterTurn 𝓤 H X Left)) $ move ! (1 ∷ []) $ well-typed ! (λ wt.
@@ -412,8 +412,8 @@ module _ {M : Type 1} (𝓤 : URA M) (H : Heap 𝓤) (A : Atoms 𝓤) (W : Given
 
     -- the invariant at t
     record Facts (t n m : ℕ) (x : State) : Type 0 where
-      going : x .wanted ≡ true → Place text n m × Reads text x n m × (n + t ≡ length text + 1)
-      gone : x .wanted ≡ false → Read text x
+      going : x .wanted ≡ true → PositionIn text n m × LinesRead text x n m × (n + t ≡ length text + 1)
+      gone : x .wanted ≡ false → PlanRead text x
 
     abbrev Inv-at : ℕ → ((ℕ × ℕ) × State) → SProp 𝓤
     Inv-at t y = guard 𝓤 (Facts t (y .0 .0) (y .0 .1) (y .1)) (⋆ 𝓤 H A (At (y .0 .0) (y .0 .1) (y .1)))
@@ -435,7 +435,7 @@ module _ {M : Type 1} (𝓤 : URA M) (H : Heap 𝓤) (A : Atoms 𝓤) (W : Given
     turn-at : (t n m : ℕ) (x : State) → Facts t n m x → ent 𝓤 (⋆ 𝓤 H A (At n m x)) (Wp 𝓤 H C Λ En turn (afterTurn 𝓤 H (Below t) Left))
     turn-at t n m x f = go (x .wanted) refl
       where
-        next-turn : (c : Cursor) (x′ : State) → Place text n m → n + t ≡ length text + 1 → Next text n m c → After text c x′ → (b : Bool) → x′ .wanted ≡ b
+        next-turn : (c : Cursor) (x′ : State) → PositionIn text n m → n + t ≡ length text + 1 → NextLine text n m c → LineRead text c x′ → (b : Bool) → x′ .wanted ≡ b
             → ent 𝓤 (⋆ 𝓤 H A (At (c .end + 1) (c .line + 1) x′)) (Below t)
         next-turn c x′ p h e a true w =
             let (ended, r) = a .more w in

@@ -8,7 +8,7 @@ returns : tie.Need-returns
 unfolding lowest
 returns c =
     let size = c .before .before in
-    rw (c .table .ensures, c .before .bad-control .ensures, size .bad-pixel-size .ensures, size .before .no-memory .ensures)
+    rw (c .refusal-table .ensures, c .before .bad-control .ensures, size .bad-pixel-size .ensures, size .before .no-memory .ensures)
 
 pub lowest-spec : {M : Type 1} → statement M
 lowest-spec =

@@ -1,13 +1,13 @@
 -- `part_of` meets its contract. Assumes nothing.
 use mathlib.Core.Path.{sym, ap, _∙_}
-use Rattle.windows.specs.Window.{whole, clipped}
-use Rattle.arrays.specs.Array.{part}
+use Rattle.windows.specs.Window.{unclipped, clipped}
+use Rattle.arrays.specs.Array.{clippedArray}
 use borrow.Author.Needs.{needs}
-use Rattle.arrays.proofs.part_of.Statement.{statement}
-use Rattle.arrays.proofs.part_of.Tie as tie
+use Rattle.arrays.proofs.clipped_array.Statement.{statement}
+use Rattle.arrays.proofs.clipped_array.Tie as tie
 
 returns : tie.Need-returns
-unfolding part
+unfolding clippedArray
 returns c =
     let window = c .before .before in
     let xy = window .before in
@@ -16,11 +16,11 @@ returns c =
     (c .clip .ensures ∙ (λ i. clipped (c .before .windowing .ensures i) (rectangle .rectangle-of .ensures i) (window .window-of .ensures i)))
 
 returns-2 : tie.Need-returns-2
-unfolding part
-returns-2 c = rw (sym (c .before .to-xy .ensures), c .if1 .left) (ap whole (c .before .before .rectangle-of .ensures))
+unfolding clippedArray
+returns-2 c = rw (sym (c .before .to-xy .ensures), c .if1 .left) (ap unclipped (c .before .before .rectangle-of .ensures))
 
-pub part-of-spec : {M : Type 1} → statement M
-part-of-spec =
+pub clipped-array-spec : {M : Type 1} → statement M
+clipped-array-spec =
     tie.close
     (tie.spec
     (λ c κs. search needs)
