@@ -25,10 +25,10 @@ use Rattle.points.specs.Points.{indices}
 use Rattle.figures.specs.Figures.{Figures}
 
 pub figures : Figures
-unfolding bitOf bitAt bitsNumber meant fieldRefusal register fieldRead caseOf stepped any first anyPair badState latest lookup fetched pixelOperations
-    processed pixelOf result pixelAfter withPixel wordAfter xyAddress badXYPitch common clipped addressAt addressOf reaches
-    leavesMemory lowest xyDestination dravOf clippedArray vAfter vUnder destStart srcStart drawingOf refusalOf drawing.refusal outcomeAt
-    outcome axisLength count indices
+unfolding bitOf bitAt bitsNumber meant fieldRefusal register fieldRead caseOf stepped any first anyPair badState latest lookup fetched
+    pixelOperations processed pixelOf result pixelAfter withPixel wordAfter xyAddress badXYPitch common clipped addressAt addressOf
+    reaches leavesMemory lowest xyDestination dravOf clippedArray vAfter vUnder destStart srcStart drawingOf refusalOf drawing.refusal
+    outcomeAt outcome axisLength count indices
 figures =
     record {
       field = refl;

@@ -24,8 +24,8 @@ use Rattle.run.specs.Lines.{pointLines}
 use Rattle.run.specs.Example.{Example}
 
 pub example : Example
-unfolding bitOf bitAt differing changedBits stepped pixelOperations processed pixelOf result pixelAfter withPixel wordAfter plotted xyAddress
-    badXYPitch common clipped addressAt addressOf reaches leavesMemory settingsOf sourceAt drawnAt visits clippedArray vAfter vUnder destStart srcStart
-    drawingOf lowest refusalOf refusal outcomeAt outcome drawn axisLength valueAt count indices assigned experiment digits numbersLine
-    ranOver pointLine pointLines
+unfolding bitOf bitAt differing changedBits stepped pixelOperations processed pixelOf result pixelAfter withPixel wordAfter plotted
+    xyAddress badXYPitch common clipped addressAt addressOf reaches leavesMemory settingsOf sourceAt drawnAt visits clippedArray vAfter
+    vUnder destStart srcStart drawingOf lowest refusalOf refusal outcomeAt outcome drawn axisLength valueAt count indices assigned
+    experiment digits numbersLine ranOver pointLine pointLines
 example = refl

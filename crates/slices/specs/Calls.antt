@@ -46,7 +46,8 @@ heldOf o =
 
 -- what a call hands back: drawing, place, budget, V, memory
 abbrev pub handedBack : Job → ℕ → ℕ → Bool → List ℕ → Held
-handedBack j place budget v m = heldOf (outcome (j .operation) (j .settings) place v budget (length m))
+handedBack j place budget v m =
+    heldOf (outcome (j .operation) (j .settings) place v budget (length m))
 
 -- the memory that it leaves: drawing, place, budget, memory
 abbrev pub memoryLeft : Job → ℕ → ℕ → List ℕ → List ℕ
@@ -78,7 +79,11 @@ next jobs (slice j b) s =
     let old = s .held j in
     record {
       memory = memoryLeft (jobs j) (old .place) b (s .memory);
-      held = λ x. cond (eqb x j) (lastAccepted (handedBack (jobs j) (old .place) b (old .v) (s .memory)) old) (s .held x);
+      held =
+          λ x.
+          cond (eqb x j)
+          (lastAccepted (handedBack (jobs j) (old .place) b (old .v) (s .memory)) old)
+          (s .held x);
     }
 next jobs (other d k b v) s = record { memory = memoryLeft d k b (s .memory); held = s .held }
 

@@ -17,7 +17,8 @@ use Rattle.arrays.specs.Array.{drawingFor}
 use Rattle.array_refusal.specs.Refusal.{refusal}
 use Rattle.interleave.specs.Apart.{Apart}
 use Rattle.interleave.specs.Order.{Order}
-use Rattle.slices.specs.Calls.{Job, Call, slice, other, CallState, handedBack, memoryLeft, run, fresh, start}
+use Rattle.slices.specs.Calls.{Job, Call, slice, other, CallState}
+use Rattle.slices.specs.Calls.{handedBack, memoryLeft, run, fresh, start}
 
 -- ---- a drawing
 
@@ -58,7 +59,8 @@ pub record Setup (w : ℕ) : Type 0 where
   pub firstV : ℕ → Bool
   pub memory : List ℕ
   pub good : Memory w memory
-  pub apart : (i j : ℕ) → i < count → j < count → i ≢ j → Accepted w (jobs i) → Accepted w (jobs j) → BitsApart (jobs i) (jobs j)
+  pub apart : (i j : ℕ) → i < count → j < count → i ≢ j → Accepted w (jobs i) → Accepted w (jobs j)
+      → BitsApart (jobs i) (jobs j)
 
 -- ---- a list of their calls
 
@@ -117,7 +119,8 @@ afterCalls d e v u m cs = run (two d e) cs (start (two d e) (two v u) m)
 
 -- a state is what d (number i) whole and then e (number j) whole give, with first V's v and u and
 -- budgets b and c, from memory m
-pub record OneThenOther (i j : ℕ) (d e : Job) (v u : Bool) (b c : ℕ) (m : List ℕ) (s : CallState) : Type 0 where
+pub record OneThenOther (i j : ℕ) (d e : Job) (v u : Bool) (b c : ℕ) (m : List ℕ)
+    (s : CallState) : Type 0 where
   pub memory : s .memory ≡ memoryLeft e 0 c (memoryLeft d 0 b m)
   pub first : s .held i ≡ handedBack d 0 b v m
   pub second : s .held j ≡ handedBack e 0 c u (memoryLeft d 0 b m)
@@ -129,9 +132,11 @@ abbrev pub Demand3 : Type 0
 Demand3 =
     (w : ℕ) (m : List ℕ) → Memory w m
     → (d e : Job) → Accepted w d → Accepted w e → BitsApart d e
-    → (v u : Bool) (cs : List Call) → Fine w 2 cs → Done (afterCalls d e v u m cs) 0 → Done (afterCalls d e v u m cs) 1
+    → (v u : Bool) (cs : List Call) → Fine w 2 cs
+    → Done (afterCalls d e v u m cs) 0 → Done (afterCalls d e v u m cs) 1
     → (b c : ℕ) → Whole d b → Whole e c
-    → OneThenOther 0 1 d e v u b c m (afterCalls d e v u m cs) × OneThenOther 1 0 e d u v c b m (afterCalls d e v u m cs)
+    → OneThenOther 0 1 d e v u b c m (afterCalls d e v u m cs)
+    × OneThenOther 1 0 e d u v c b m (afterCalls d e v u m cs)
 
 -- ---- a list that stops anywhere
 
@@ -141,7 +146,8 @@ abbrev pub StoppedAnywhere : Type 0
 StoppedAnywhere =
     (w : ℕ) (S : Setup w) (cs : List Call) → Fine w (S .count) cs
     → (j : ℕ) → j < S .count → Accepted w (S .jobs j) → (a : ℕ) → Writes (S .jobs j) a
-    → bitAt (reached S cs .memory) a ≡ bitAt (memoryLeft (S .jobs j) 0 (reached S cs .held j .place) (S .memory)) a
+    → bitAt (reached S cs .memory) a
+    ≡ bitAt (memoryLeft (S .jobs j) 0 (reached S cs .held j .place) (S .memory)) a
 
 -- bits that no accepted drawing may write stay
 abbrev pub OthersStay : Type 0

@@ -137,15 +137,17 @@ module _ (op : Operation) (s : Settings) (place words : ℕ) (e : refusal op s p
   unfolding drawingOf destStart
   dest-place = go (toXY op) refl
     where
+      -- where an XY destination starts
+      start : ℕ
+      start = xyAddress (s .offset) (s .dptch) (s .psize) (startX (s .daddr) (clippedArray op s)) (startY (s .daddr) (clippedArray op s))
+
       go : (t : Bool) → toXY op ≡ t
-          → addressOf
-          (startAt (destination s)
-          (cond t (xyAddress (s .offset) (s .dptch) (s .psize) (startX (s .daddr) (clippedArray op s)) (startY (s .daddr) (clippedArray op s))) (s .daddr)))
-          cols i
+          → addressOf (startAt (destination s) (cond t start (s .daddr))) cols i
           ≡ placeAt t (s .offset) (destination s) (columnOf op s i) (rowOf op s i)
       go true q =
           walk-place (s .daddr) (s .dptch)
-          (and-false (toXY op) _ q (or-false-left (toXY op && negativeStart (s .daddr) (clippedArray op s)) _ (or-false-left badTo badFrom good)))
+          (and-false (toXY op) _ q
+          (or-false-left (toXY op && negativeStart (s .daddr) (clippedArray op s)) _ (or-false-left badTo badFrom good)))
       go false q = linear-place q
 
   -- an XY source's start is not negative, and its pixels are PSIZE apart
@@ -183,11 +185,14 @@ module _ (op : Operation) (s : Settings) where
   abbrev rect : Rectangle
   rect = kept (rectangleOf s) (clippedArray op s)
 
-  pub visited-kept : (i : ℕ) → i < pixels (drawingFor op s) → InRectangle rect (xOf (s .daddr) + columnOf op s i) (yOf (s .daddr) + rowOf op s i)
+  pub visited-kept : (i : ℕ) → i < pixels (drawingFor op s)
+      → InRectangle rect (xOf (s .daddr) + columnOf op s i) (yOf (s .daddr) + rowOf op s i)
   unfolding drawingOf
-  visited-kept i h = row-col (rect .cols) (rect .rows) i h (xOf (s .daddr)) (clippedArray op s .left) (yOf (s .daddr)) (clippedArray op s .above)
+  visited-kept i h =
+      row-col (rect .cols) (rect .rows) i h (xOf (s .daddr)) (clippedArray op s .left) (yOf (s .daddr)) (clippedArray op s .above)
 
   pub kept-visited : (x y : ℕ) → InRectangle rect x y
       → (i : ℕ) × (i < pixels (drawingFor op s)) × (x ≡ xOf (s .daddr) + columnOf op s i) × (y ≡ yOf (s .daddr) + rowOf op s i)
   unfolding drawingOf
-  kept-visited x y p = number (rect .cols) (rect .rows) (xOf (s .daddr)) (clippedArray op s .left) (yOf (s .daddr)) (clippedArray op s .above) x y p
+  kept-visited x y p =
+      number (rect .cols) (rect .rows) (xOf (s .daddr)) (clippedArray op s .left) (yOf (s .daddr)) (clippedArray op s .above) x y p

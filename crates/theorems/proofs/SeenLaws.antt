@@ -148,7 +148,8 @@ module _ (op : Operation) (s : Settings) (v : Bool) where
   unfolding clippedArray
   request-of = go (toXY op)
     where
-      go : (t : Bool) → cond t (clipped w (rectangleOf s) win) (unclipped (rectangleOf s)) .request ≡ cond t (clipped w (rectangleOf s) win .request) false
+      go : (t : Bool) → cond t (clipped w (rectangleOf s) win) (unclipped (rectangleOf s)) .request
+          ≡ cond t (clipped w (rectangleOf s) win .request) false
       go true = refl
       go false = refl
 

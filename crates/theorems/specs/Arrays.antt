@@ -21,19 +21,20 @@ use Rattle.array_refusal.specs.Refusal.{refusal}
 
 -- ---- coordinates
 
--- A half stands for the signed number that it is in two's complement: below 2^15 for itself, from 2^15
--- on for itself less 2^16. Its coordinate is that number plus 2^15.
+-- A half stands for the signed number that it is in two's complement: below 2^15 for itself, from
+-- 2^15 on for itself less 2^16. Its coordinate is that number plus 2^15.
 abbrev pub CoordinateIsSigned : Type 0
 CoordinateIsSigned =
     ((half : ℕ) → half < 2 ^ 15 → coordinate half ≡ half + 2 ^ 15)
     × ((half : ℕ) → 2 ^ 15 ≤ half → half < 2 ^ 16 → coordinate half + 2 ^ 16 ≡ half + 2 ^ 15)
 
--- A register and its two coordinates correspond: taken apart and put together it is itself, and each
--- two coordinates are those of their register.
+-- A register and its two coordinates correspond: taken apart and put together it is itself, and
+-- each two coordinates are those of their register.
 abbrev pub RegisterIsCoordinates : Type 0
 RegisterIsCoordinates =
     ((xy : ℕ) → xy < 2 ^ 32 → registerOf (xOf xy) (yOf xy) ≡ xy)
-    × ((x y : ℕ) → x < 2 ^ 16 → y < 2 ^ 16 → (xOf (registerOf x y) ≡ x) × (yOf (registerOf x y) ≡ y))
+    × ((x y : ℕ) → x < 2 ^ 16 → y < 2 ^ 16
+    → (xOf (registerOf x y) ≡ x) × (yOf (registerOf x y) ≡ y))
 
 -- ---- walks
 

@@ -1,5 +1,5 @@
--- The names of settings and of drawings (demand 2), against the words of the scope. The proofs are in
--- proofs/Names.antt. Assumes nothing.
+-- The names of settings and of drawings (demand 2), against the words of the scope. The proofs are
+-- in proofs/Names.antt. Assumes nothing.
 use mathlib.Core.Path.{_≡_}
 use mathlib.Core.List.{List, [], map}
 use Prim.Native.Nat.{ℕ, _<_}
@@ -9,7 +9,9 @@ use Rattle.names.specs.Names.{names, nameCount, settingCount, seedAt}
 use Rattle.names.specs.Drawings.{drawingNames}
 use Rattle.settings.specs.Settings.{inOrder}
 use Rattle.operation.specs.declared.Operation.{Operation}
-use Rattle.operation.specs.declared.Operation.the-variants.{FillL, FillXY, PixbltLL, PixbltLXY, PixbltXYL, PixbltXYXY, PixbltBL, PixbltBXY}
+use Rattle.operation.specs.declared.Operation.the-variants.{FillL, FillXY, PixbltLL, PixbltLXY}
+use Rattle.operation.specs.declared.Operation.the-variants.{PixbltXYL, PixbltXYXY}
+use Rattle.operation.specs.declared.Operation.the-variants.{PixbltBL, PixbltBXY}
 use Rattle.operation.specs.Operation.{operations}
 use Rattle.line.specs.Line.{nameNumber}
 
