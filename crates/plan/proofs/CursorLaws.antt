@@ -51,21 +51,21 @@ lines-some : (text : List ℕ) (at number : ℕ) → 0 < length (linesFrom text 
 lines-some text at number = kept-some number _ (parts-some 10 (drop at text))
 
 module _ (text : List ℕ) (at end number : ℕ) (is : end ≡ at + length (lineAt text at)) where
-  pub lines-skip : skippedAt text at end ≡ true → linesFrom text at number ≡ linesFrom text (end + 1) (number + 1)
+  lines-skip : skippedAt text at end ≡ true → linesFrom text at number ≡ linesFrom text (end + 1) (number + 1)
   lines-skip e =
       let (l, s) = and-eq-true-iff _ _ .0 e in
       ap (keptLines number) (parts-before 10 text at end is (ltb-true _ _ l))
       ∙ kept-skip number _ _ (parts-some 10 _) s
       ∙ rw (add-one end, add-one number)
 
-  pub lines-keep : end < length text → skippedAt text at end ≡ false
+  lines-keep : end < length text → skippedAt text at end ≡ false
       → linesFrom text at number ≡ record { number = number; bytes = lineAt text at } ∷ linesFrom text (end + 1) (number + 1)
   lines-keep h e =
       ap (keptLines number) (parts-before 10 text at end is h)
       ∙ kept-keep number _ _ (parts-some 10 _) (rw (lt-ltb _ _ h) at e)
       ∙ rw (add-one end, add-one number)
 
-  pub lines-last : length text ≤ end → linesFrom text at number ≡ record { number = number; bytes = drop at text } ∷ []
+  lines-last : length text ≤ end → linesFrom text at number ≡ record { number = number; bytes = drop at text } ∷ []
   lines-last h = ap (keptLines number) (parts-last 10 text at end is h) ∙ kept-last number _
 
 -- The next line: from a place on, past a line that is skipped, and where one is not

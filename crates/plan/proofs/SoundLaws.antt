@@ -45,7 +45,7 @@ module _ {axes : List Axis} {fields : List (List ℕ)} (s : Sound axes) (g : Goo
 abbrev SoundReading : Reading → Type 0
 SoundReading r = Sound (r .axes)
 
-pub axisLines-sound : (words draw : ℕ) (axes : List Axis) (ls : List Line) → Sound axes → Sound (readAxes words draw axes ls .axes)
+axisLines-sound : (words draw : ℕ) (axes : List Axis) (ls : List Line) → Sound axes → Sound (readAxes words draw axes ls .axes)
 unfolding readAxes
 axisLines-sound words draw axes [] s = s
 axisLines-sound words draw axes (l ∷ []) s = cond-both SoundReading (eqb (length (l .bytes)) 0) _ _ (λ e. s) (λ e. sound-none)

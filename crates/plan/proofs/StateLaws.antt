@@ -35,10 +35,19 @@ getD-none (suc n) (suc i) = getD-none n i
 pub holds-none : (text : List ℕ) → HoldsAxes text [] nothingRead
 unfolding any count
 holds-none text =
-    record { sound = sound-none; size = refl; seen-is = getD-none nameCount; axes-is = refl; points-is = refl; places = refl; starts-are = refl }
+    record {
+      sound = sound-none;
+      size = refl;
+      seen-is = getD-none nameCount;
+      axes-is = refl;
+      points-is = refl;
+      places = refl;
+      starts-are = refl;
+    }
 
 -- with another plan of no axes
-pub holds-going : {text : List ℕ} {s : State} (words draw : ℕ) → HoldsAxes text [] s → HoldsAxes text [] (going s (acceptedPlan words draw 0 1))
+pub holds-going : {text : List ℕ} {s : State} (words draw : ℕ) → HoldsAxes text [] s
+    → HoldsAxes text [] (going s (acceptedPlan words draw 0 1))
 unfolding count
 holds-going words draw h =
     record {

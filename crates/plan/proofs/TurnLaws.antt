@@ -19,7 +19,8 @@ use Rattle.text.proofs.TextLaws.{part-end-le}
 use Rattle.plan.specs.Reading.{Reading, acceptedReading, refusedAt, textLimit}
 use Rattle.plan.specs.Table.{refusedPlan, acceptedPlan, summary}
 use Rattle.plan.specs.Cursor.{lineAt, linesFrom, readingOf, NextLine}
-use Rattle.plan.specs.State.{nothingRead, going, shut, afterMemory, afterDraw, afterEnd, afterAxis, heldRefusal, LinesRead, PlanRead, LineRead}
+use Rattle.plan.specs.State.{nothingRead, going, shut, afterMemory, afterDraw, afterEnd, afterAxis, heldRefusal}
+use Rattle.plan.specs.State.{LinesRead, PlanRead, LineRead}
 use Rattle.plan.proofs.ReadingLaws.{memory-last, memory-bad, memory-next, draw-last, draw-bad, draw-next, axes-end, axes-last}
 use Rattle.plan.proofs.ReadingLaws.{axes-bad, axes-next}
 use Rattle.plan.proofs.CursorLaws.{lineOf, linesBehind, some-behind, next-line, next-last}
@@ -59,7 +60,7 @@ module _ {text : List ℕ} {n m : ℕ} {c : Cursor} (x : NextLine text n m c) wh
 -- No line is wanted any more
 
 module _ {text : List ℕ} {c : Cursor} {s : State} where
-  pub after-shut : s .wanted ≡ false → PlanRead text s → LineRead text c s
+  after-shut : s .wanted ≡ false → PlanRead text s → LineRead text c s
   after-shut e r = record { more = λ t. absurd (true≢false (sym t ∙ e)); done = λ f. r }
 
   after-going : s .wanted ≡ true → c .end < length text → LinesRead text s (c .end + 1) (c .line + 1) → LineRead text c s

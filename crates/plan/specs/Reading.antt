@@ -40,7 +40,8 @@ pub record Reading : Type 0 where
   pub axes : List Axis
 
 abbrev pub acceptedReading : ℕ → ℕ → List Axis → Reading
-acceptedReading words draw axes = record { answer = 0; line = 0; words = words; draw = draw; axes = axes }
+acceptedReading words draw axes =
+    record { answer = 0; line = 0; words = words; draw = draw; axes = axes }
 
 abbrev pub refusedAt : ℕ → ℕ → Reading
 refusedAt number line = record { answer = number; line = line; words = 0; draw = 0; axes = [] }
@@ -50,7 +51,9 @@ refusedAt number line = record { answer = number; line = line; words = 0; draw =
 unfoldable pub readAxes : ℕ → ℕ → List Axis → List Line → Reading
 readAxes words draw axes [] = acceptedReading words draw axes
 readAxes words draw axes (rest ∷ []) =
-    cond (eqb (length (rest .bytes)) 0) (acceptedReading words draw axes) (refusedAt 20 (rest .number))
+    cond (eqb (length (rest .bytes)) 0)
+    (acceptedReading words draw axes)
+    (refusedAt 20 (rest .number))
 readAxes words draw axes (l ∷ m ∷ ls) =
     cond (eqb (axisRefusal axes (fieldsOf (l .bytes))) 0)
     (readAxes words draw (axes ++ (axisOf (fieldsOf (l .bytes)) ∷ [])) (m ∷ ls))

@@ -41,7 +41,9 @@ shut s plan = record { wanted = false; plan = plan; seen = s .seen; starts = s .
 
 abbrev pub afterMemory : State → ℕ → ℕ → State
 afterMemory s words line =
-    cond (eqb words 0) (shut s (refusedPlan 20 line)) (going s (acceptedPlan words drawingCount 0 1))
+    cond (eqb words 0)
+    (shut s (refusedPlan 20 line))
+    (going s (acceptedPlan words drawingCount 0 1))
 
 abbrev pub afterDraw : State → ℕ → ℕ → State
 afterDraw s draw line =
@@ -51,7 +53,9 @@ afterDraw s draw line =
 
 abbrev pub afterEnd : State → Bool → ℕ → State
 afterEnd s left line =
-    cond (left || eqb (s .plan .draw) drawingCount) (shut s (refusedPlan 20 line)) (shut s (s .plan))
+    cond (left || eqb (s .plan .draw) drawingCount)
+    (shut s (refusedPlan 20 line))
+    (shut s (s .plan))
 
 -- An axis line of these fields: its refusal, or an axis more, whose line starts at a place
 

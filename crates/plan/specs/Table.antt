@@ -38,4 +38,5 @@ storedAxes axes t = tableOf axes ++ drop (length (tableOf axes)) t
 
 -- a refused call leaves the table as lent
 unfoldable pub tableAfter : List ℕ → List ℕ → List ℕ
-tableAfter text t = cond (eqb (planOf text (length t) .answer) 0) (storedAxes (reading text .axes) t) t
+tableAfter text t =
+    cond (eqb (planOf text (length t) .answer) 0) (storedAxes (reading text .axes) t) t

@@ -1,6 +1,6 @@
--- `plan::behind` meets its contract: a walk of its MIR, by hand. A reader is made anew of the text that the one passed holds, and of the numbers
--- behind a line. The reader is Copy: what it owns is had twice, one copy is kept whole for the exit, and of the other the text goes into the result.
--- Assumes nothing.
+-- `plan::behind` meets its contract: a walk of its MIR, by hand. A reader is made anew of the text that the one passed holds, and of the
+-- numbers behind a line. The reader is Copy: what it owns is had twice, one copy is kept whole for the exit, and of the other the text goes
+-- into the result. Assumes nothing.
 use mathlib.Core.Path.{refl}
 use Prim.Native.Nat.{_+_, _<_, _^_}
 use mathlib.Core.List.{[], _∷_}
@@ -58,14 +58,18 @@ module _ {M : Type 1} (𝓤 : URA M) (H : Heap 𝓤) (A : Atoms 𝓤) (W : Given
   Post = walkOf 𝓤 H A behind.ended stayed (behind.clauses 𝓤 H A mem run) .post (((κ, tt), (q, tt), tt, (d, (c, tt)), passed), tt)
 
   moved : ent 𝓤 (sem 𝓤 H A (ReaderOwn κ d)) (sem 𝓤 H A (ReaderOwn κ made))
-  moved = via 𝓤 (sem 𝓤 H A (TextOwn κ (d .text))) (text-out 𝓤 H A W κ d) (reader-in 𝓤 H A W κ (d .text) (c .end + 1) (c .line + 1) end-fits line-fits)
+  moved =
+      via 𝓤 (sem 𝓤 H A (TextOwn κ (d .text))) (text-out 𝓤 H A W κ d)
+      (reader-in 𝓤 H A W κ (d .text) (c .end + 1) (c .line + 1) end-fits line-fits)
 
   exits : ent 𝓤 Entry (Post (T′.lowered made))
   exits =
       qed W ((‵ (flft κ q) ⊛ ‵ ftrue) ∷ ‵ (owns (R (κ, tt) ∷ S.the-row ∷ []) (d, (c, tt)) passed) ∷ []) ∵
-      suffices ! _ (ends-at 𝓤 H A behind.ended stayed (behind.clauses 𝓤 H A mem run) W (((κ, tt), (q, tt), tt, (d, (c, tt)), passed), tt) (T′.lowered made) made (tt, (tt, tt)) (tt, (tt, tt))) $
+      suffices ! _ (ends-at 𝓤 H A behind.ended stayed (behind.clauses 𝓤 H A mem run) W (((κ, tt), (q, tt), tt, (d, (c, tt)), passed), tt)
+      (T′.lowered made) made (tt, (tt, tt)) (tt, (tt, tt))) $
       says ! (refl, (refl, refl)) $ frame ! $
-      fsplit ! $ use1 W (‵ (ReaderOwn κ d) ⊛ ‵ (ReaderOwn κ d)) (LL.copy (D (κ, tt)) (T′.the-copy (namedLft 1 0 tt (κ, tt))) 𝓤 H A W .twice d (T′.lowered d ∷ [])) $ split ! $
+      fsplit ! $ use1 W (‵ (ReaderOwn κ d) ⊛ ‵ (ReaderOwn κ d))
+      (LL.copy (D (κ, tt)) (T′.the-copy (namedLft 1 0 tt (κ, tt))) 𝓤 H A W .twice d (T′.lowered d ∷ [])) $ split ! $
       move ! (0 ∷ 2 ∷ []) $ fjoin ! $ frame ! $ by ! moved
 
   module _ (C : Calls 𝓤 H) (Λ : Loops 𝓤 H) where
@@ -78,29 +82,36 @@ module _ {M : Type 1} (𝓤 : URA M) (H : Heap 𝓤) (A : Atoms 𝓤) (W : Given
         -- [room for _5; …; room for _4; …; room for _3; …; _2; …; _1; …; room for _0; …]
         assigns ! (of-opd ! (load ! (from ! (fld ! refl (stop !))) (look-in ! 8 (sub ! 0 refl (whole !)))))
         (from ! (stop !)) (init ! 4 refl (tt, wt .1 .0)) $
-        assigns ! (bin ! (load ! (from ! (fld ! refl (stop !))) (look-in ! 6 (sub ! 1 refl (whole !)))) (lit ! tt) (record { fits = end-fits }))
+        assigns ! (bin ! (load ! (from ! (fld ! refl (stop !))) (look-in ! 6 (sub ! 1 refl (whole !)))) (lit ! tt)
+        (record { fits = end-fits }))
         (from ! (stop !)) (init ! 2 refl (tt, record { fits = end-fits })) $
-        assigns ! (bin ! (load ! (from ! (fld ! refl (stop !))) (look-in ! 6 (sub ! 2 refl (whole !)))) (lit ! tt) (record { fits = line-fits }))
+        assigns ! (bin ! (load ! (from ! (fld ! refl (stop !))) (look-in ! 6 (sub ! 2 refl (whole !)))) (lit ! tt)
+        (record { fits = line-fits }))
         (from ! (stop !)) (init ! 0 refl (tt, record { fits = line-fits })) $
         assigns ! (agg ! (and-then ! (load ! (from ! (stop !)) (look ! 4 refl)) (and-then ! (load ! (from ! (stop !)) (look ! 2 refl))
         (and-then ! (load ! (from ! (stop !)) (look ! 0 refl)) (no-more !)))))
         (from ! (stop !)) (init ! 10 refl (tt, (wt .1 .0, (record { fits = end-fits }, (record { fits = line-fits }, tt))))) $
-        returns ! (look ! 10 refl) $ forget ! 0 refl $ forget ! 2 refl $ forget ! 4 refl $ forget ! 6 refl $ forget ! 8 refl $ forget ! 10 refl $
+        returns ! (look ! 10 refl) $ forget ! 0 refl $ forget ! 2 refl $ forget ! 4 refl $ forget ! 6 refl $
+        forget ! 8 refl $ forget ! 10 refl $
         move ! (10 ∷ 11 ∷ []) $ free1 ! $ move ! (8 ∷ 9 ∷ []) $ free1 ! $ move ! (6 ∷ 7 ∷ []) $ free1 ! $ move ! (4 ∷ 5 ∷ []) $ free1 ! $
         move ! (2 ∷ 3 ∷ []) $ free1 ! $ free1 ! $ free0 ! $ by ! exits))))))
 
 module _ {M : Type 1} (𝓤 : URA M) (H : Heap 𝓤) (A : Atoms 𝓤) (W : Given 𝓤 H A) (mem : Memory → SProp 𝓤) (run : Routine → Fun 𝓤) where
-  behind-walks : (C : Calls 𝓤 H) (Λ : Loops 𝓤 H) → Walks 𝓤 H A behind.ended stayed (WpFn 𝓤 H C Λ code.function) (behind.clauses 𝓤 H A mem run)
+  behind-walks : (C : Calls 𝓤 H) (Λ : Loops 𝓤 H)
+      → Walks 𝓤 H A behind.ended stayed (WpFn 𝓤 H C Λ code.function) (behind.clauses 𝓤 H A mem run)
   behind-walks C Λ =
       walked 𝓤 H A behind.ended stayed (behind.clauses 𝓤 H A mem run) (WpFn 𝓤 H C Λ code.function)
-      (λ κs. (LL.vals (D κs) (L κs), (LL.vals S.the-type S′.the-laws, tt))) (λ κs. (LL.tells (D κs) (L κs), (LL.tells S.the-type S′.the-laws, tt)))
+      (λ κs. (LL.vals (D κs) (L κs), (LL.vals S.the-type S′.the-laws, tt)))
+      (λ κs. (LL.tells (D κs) (L κs), (LL.tells S.the-type S′.the-laws, tt)))
       (λ κs qs bounds a g are. needs 𝓤 _ _ (λ fits.
       walk 𝓤 H A W mem run (κs .0) (qs .0) (a .0) (a .1 .0) (fits .0) (fits .1) C Λ
-      (LL.lawful (D κs) (L κs) 𝓤 H A W .typed (a .0) _ (are .0) .0) (LL.lawful S.the-type S′.the-laws 𝓤 H A W .typed (a .1 .0) _ (are .1 .0) .0)))
+      (LL.lawful (D κs) (L κs) 𝓤 H A W .typed (a .0) _ (are .0) .0)
+      (LL.lawful S.the-type S′.the-laws 𝓤 H A W .typed (a .1 .0) _ (are .1 .0) .0)))
 
   behind-meets : (𝓣 : Tables 𝓤 H) → Meets 𝓤 H A behind.signature (WpFn 𝓤 H (𝓣 .C) (𝓣 .Λ) code.function) (behind.spec 𝓤 H A mem run)
   behind-meets 𝓣 =
-      walk-meets 𝓤 H A behind.ended stayed W (goes-none 𝓤 H A W 1 R yes (λ κs x f. refl), (goes-none 𝓤 H A W 1 (λ _. S.the-row) yes (λ κs x f. refl), tt))
+      walk-meets 𝓤 H A behind.ended stayed W
+      (goes-none 𝓤 H A W 1 R yes (λ κs x f. refl), (goes-none 𝓤 H A W 1 (λ _. S.the-row) yes (λ κs x f. refl), tt))
       (behind.clauses 𝓤 H A mem run) (WpFn 𝓤 H (𝓣 .C) (𝓣 .Λ) code.function) (WpFn-mono 𝓤 H (W .laws) 𝓣 code.function)
       (behind-walks (𝓣 .C) (𝓣 .Λ))
 

@@ -60,7 +60,8 @@ module _ {M : Type 1} (𝓤 : URA M) (H : Heap 𝓤) (A : Atoms 𝓤) (W : Given
   exits : ent 𝓤 Entry (Post (T′.lowered made))
   exits =
       qed W ((‵ (flft κ q) ⊛ ‵ ftrue) ∷ ‵ (owns (ShrSlice (named 0) κ u8 ∷ []) (s, tt) passed) ∷ []) ∵
-      suffices ! _ (ends-at 𝓤 H A reader-of.ended stayed (reader-of.clauses 𝓤 H A mem run) W (((κ, tt), (q, tt), tt, (s, tt), passed), tt) (T′.lowered made) made (tt, tt) (tt, tt)) $
+      suffices ! _ (ends-at 𝓤 H A reader-of.ended stayed (reader-of.clauses 𝓤 H A mem run) W (((κ, tt), (q, tt), tt, (s, tt), passed), tt)
+      (T′.lowered made) made (tt, tt) (tt, tt)) $
       says ! (refl, (refl, refl)) $ frame ! $
       fsplit ! $ use1 W (‵ (TextOwn κ s) ⊛ ‵ (TextOwn κ s)) (text-twice 𝓤 H A W κ s) $ split ! $ move ! (0 ∷ 2 ∷ []) $ fjoin ! $ frame ! $
       by ! (reader-in 𝓤 H A W κ s 0 1 (lit< tt) (lit< tt))
@@ -72,12 +73,14 @@ module _ {M : Type 1} (𝓤 : URA M) (H : Heap 𝓤) (A : Atoms 𝓤) (W : Given
         qed W (raw Entry ∷ []) ∵ enter ! C Λ code.function (textVal s ∷ []) _ $
         alloc1 ! (λ l₀. alloc1 ! (λ l₁. alloc0 ! $ params1 ! $ pass1 ! (init ! 0 refl typed) $ pass0 ! $
         -- [_1; …; room for _0; …]
-        assigns ! (agg ! (and-then ! (load ! (from ! (stop !)) (look ! 0 refl)) (and-then ! (lit ! tt) (and-then ! (lit ! tt) (no-more !)))))
+        assigns ! (agg !
+        (and-then ! (load ! (from ! (stop !)) (look ! 0 refl)) (and-then ! (lit ! tt) (and-then ! (lit ! tt) (no-more !)))))
         (from ! (stop !)) (init ! 2 refl (tt, (typed .1, (record { fits = lit< tt }, (record { fits = lit< tt }, tt))))) $
         returns ! (look ! 2 refl) $ forget ! 0 refl $ forget ! 2 refl $ move ! (2 ∷ 3 ∷ []) $ free1 ! $ free1 ! $ free0 ! $ by ! exits))
 
 module _ {M : Type 1} (𝓤 : URA M) (H : Heap 𝓤) (A : Atoms 𝓤) (W : Given 𝓤 H A) (mem : Memory → SProp 𝓤) (run : Routine → Fun 𝓤) where
-  reader-of-walks : (C : Calls 𝓤 H) (Λ : Loops 𝓤 H) → Walks 𝓤 H A reader-of.ended stayed (WpFn 𝓤 H C Λ code.function) (reader-of.clauses 𝓤 H A mem run)
+  reader-of-walks : (C : Calls 𝓤 H) (Λ : Loops 𝓤 H)
+      → Walks 𝓤 H A reader-of.ended stayed (WpFn 𝓤 H C Λ code.function) (reader-of.clauses 𝓤 H A mem run)
   reader-of-walks C Λ =
       walked 𝓤 H A reader-of.ended stayed (reader-of.clauses 𝓤 H A mem run) (WpFn 𝓤 H C Λ code.function)
       (λ κs. (slice-vals, tt)) (λ κs. (shr-slice-tells (named 0) (κs .0) u8, tt))

@@ -23,7 +23,7 @@ room : (s : tie.Start) → s .args .at + (2 + length (valuesOf (fields s))) ≤ 
 room s = omega (arith, s .pre, ap length (entryOf-listed (axisOf (fields s))))
 
 abbrev start : tie.After-store-values → tie.Start
-start v = v .before .before .before .before .before
+start v = let name = v .before .before in name .before .before .before
 
 named : (v : tie.After-store-values)
     → length (set (start v .args .table .now) (start v .args .at) (v .before .before .name-of .result)) ≡ length (start v .args .table .now)

@@ -13,8 +13,9 @@ use Rattle.plan.proofs.taken.Tie as tie
 
 returns : tie.Need-returns
 returns c =
-    let s = c .before .before .before .before in
-    rw (c .at-end .ensures) (after-end (s .pre .1) (s .pre .2) (omega (arith, c .before .if1 .taken)))
+    let e = c .before in
+    let s = e .before .before .before in
+    rw (c .at-end .ensures) (after-end (s .pre .1) (s .pre .2) (omega (arith, e .if1 .taken)))
 
 sub-line : tie.Need-sub-line
 sub-line c = let s = c .before .before .before in omega (arith, s .pre .1 .reached .ends)

@@ -12,14 +12,17 @@ use Rattle.plan.proofs.with_axis.Tie as tie
 
 returns : tie.Need-returns
 returns c =
-    let a = c .before .before .before .before in
+    let r = c .before in
+    let test = r .before in
+    let a = test .before .before in
     let is = ap (λ x. x .refusal) (a .axis-of .ensures) in
-    c .shut .ensures ∙ rw (c .before .refused .ensures, ← is, ne-eqb _ 0 (c .before .before .if1 .taken))
+    c .shut .ensures ∙ rw (r .refused .ensures, ← is, ne-eqb _ 0 (test .if1 .taken))
 
 with-values-requires : tie.Need-with-values-requires
 with-values-requires c κs =
     let a = c .before .before in
-    let s = a .before .before .before .before in
+    let plan = a .before .before in
+    let s = plan .before .before in
     let g = good _ _ _ (sym (ap (λ x. x .refusal) (a .axis-of .ensures)) ∙ c .if1 .left) in
     rw (a .axis-of .ensures) (g .known, min-le-left _ _, g .room, s .pre)
 

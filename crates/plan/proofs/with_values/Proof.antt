@@ -8,7 +8,8 @@ use Rattle.plan.proofs.with_values.Tie as tie
 
 mul-accepted : tie.Need-mul-accepted
 mul-accepted c =
-    let s = c .before .before .before .before .before in
+    let plan = c .before .before in
+    let s = plan .before .before .before in
     let (name, few, axes, points) = s .pre in
     let seven : s .args .s .plan .axes ≤ 7 = omega (arith, axes) in
     omega (arith, mul-le-mul (le-trans points (pow-le-pow-right (omega arith) seven)) few)
