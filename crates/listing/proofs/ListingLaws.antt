@@ -33,17 +33,17 @@ by-size {P} n f g = go (ltb n 10) refl
 length-large : (k n : ℕ) → 10 ≤ n → length (digits (suc k) n) ≡ length (digits k (n / 10)) + 1
 length-large k n h = rw (digits-large k n h) (length-append (digits k (n / 10)) _)
 
-pub length-digits-le : (k n : ℕ) → length (digits k n) ≤ k
+length-digits-le : (k n : ℕ) → length (digits k n) ≤ k
 unfolding digits
 length-digits-le zero n = omega arith
 length-digits-le (suc k) n =
     by-size n (λ h. rw (digits-small k n h) (omega arith)) (λ h. omega (arith, length-large k n h, length-digits-le k (n / 10)))
 
-pub length-decimal-le : (n : ℕ) → length (decimal n) ≤ mostDigits
+length-decimal-le : (n : ℕ) → length (decimal n) ≤ mostDigits
 length-decimal-le n = length-digits-le mostDigits n
 
 -- k + 1 digits are enough below 10 ^ (k + 1)
-pub length-digits-of-lt : (m k n : ℕ) → n < 10 ^ suc k → length (digits m n) ≤ suc k
+length-digits-of-lt : (m k n : ℕ) → n < 10 ^ suc k → length (digits m n) ≤ suc k
 unfolding digits
 length-digits-of-lt zero k n h = omega arith
 length-digits-of-lt (suc m) zero n h = rw (digits-small m n h) (omega arith)

@@ -61,11 +61,11 @@ fitted-append at a b out r r′ o o′ h p q =
     let g = fitted r b o r′ o′ (omega (arith, f .0, ap length (f .1), length-put at a out (omega arith))) q in
     (omega (arith, f .0, g .0), g .1 ∙ rw (f .0, f .1) (put-put at a b out (omega arith)))
 
-pub length-ended : (bs : List ℕ) (end : ℕ) → length (bs ++ (end ∷ [])) ≡ length bs + 1
+length-ended : (bs : List ℕ) (end : ℕ) → length (bs ++ (end ∷ [])) ≡ length bs + 1
 length-ended bs end = length-append bs (end ∷ [])
 
 -- a byte put after bytes
-pub ended-placed : (at end : ℕ) (bs out : List ℕ) → at + (length bs + 1) ≤ length out
+ended-placed : (at end : ℕ) (bs out : List ℕ) → at + (length bs + 1) ≤ length out
     → Placed at (bs ++ (end ∷ [])) out (at + length bs + 1) (set (put at bs out) (at + length bs) end)
 ended-placed at end bs out h =
     let room : at + length bs < length (put at bs out) = omega (arith, length-put at bs out (omega arith)) in

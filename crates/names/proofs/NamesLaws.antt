@@ -10,7 +10,8 @@ use lib.ListN.{length, getD, List·getD-map}
 use lib.Pow.{pow-pos}
 use Rattle.names.specs.Names.{Name, name, nameTable, nameCount, defaults, bitsOf, limit, tooLargeFor}
 
-pub length-table : length nameTable ≡ nameCount
+-- the count stands by itself: it is the table's
+length-table : length nameTable ≡ nameCount
 length-table = refl
 
 -- A test of all rows, each with its number

@@ -13,7 +13,7 @@ use Rattle.points.specs.OneToOne.{badLength}
 
 -- By their kind
 
-pub valueAt-past : (a : Axis) (i : ℕ) → axisLength a ≤ i → valueAt a i ≡ 0
+valueAt-past : (a : Axis) (i : ℕ) → axisLength a ≤ i → valueAt a i ≡ 0
 unfolding axisLength valueAt
 valueAt-past a i h = List·getD-eq-default (a .values) 0 h
 

@@ -28,7 +28,7 @@ length-assigned (a ∷ later) [] vs = refl
 length-assigned (a ∷ later) (i ∷ is) vs = length-assigned later is (set vs _ _) ∙ length-set vs _ _
 
 -- a name of no axis keeps its value
-pub assigned-other : (axes : List Axis) (is vs : List ℕ) (i : ℕ) → any (isNamed i) axes ≡ false
+assigned-other : (axes : List Axis) (is vs : List ℕ) (i : ℕ) → any (isNamed i) axes ≡ false
     → getD (assigned axes is vs) i 0 ≡ getD vs i 0
 unfolding any assigned
 assigned-other [] is vs i e = refl

@@ -113,11 +113,11 @@ abbrev pub countIn : ℕ → List ℕ → ℕ
 countIn k t = cond (holds k t) (count (axesIn k t)) 0
 
 module _ (t : List ℕ) where
-  pub countIn-none : (k : ℕ) → k ≡ 0 → 1 ≡ countIn k t
+  countIn-none : (k : ℕ) → k ≡ 0 → 1 ≡ countIn k t
   unfolding holds axesIn count
   countIn-none k e = rw e
 
-  pub countIn-not : (k : ℕ) → (k ≡ 0 → ⊥) → holdsAxis t ≡ false → 0 ≡ countIn k t
+  countIn-not : (k : ℕ) → (k ≡ 0 → ⊥) → holdsAxis t ≡ false → 0 ≡ countIn k t
   unfolding holds
   countIn-not zero n e = absurd (n refl)
   countIn-not (suc k) n e = rw e
@@ -161,7 +161,7 @@ module _ (t : List ℕ) (k : ℕ) where
       pub counted-inside : (lengthIn (drop at t) ≤ mostValues) × (at + sizeIn (drop at t) ≤ length t)
       counted-inside = (held (drop at t) e .few, omega (arith, held (drop at t) e .whole, length-drop at t, c .inside))
 
-      pub counted-full : n * lengthIn (drop at t) ≤ mostValues ^ (i + 1)
+      counted-full : n * lengthIn (drop at t) ≤ mostValues ^ (i + 1)
       counted-full = rw (add-one i, pow-suc mostValues i) (mul-le-mul (c .full) (held (drop at t) e .few))
 
       pub counted-fits : k ≤ mostAxes → n * lengthIn (drop at t) < 2 ^ 64

@@ -66,7 +66,7 @@ holdsAxis-front a t u l s =
       ap tooLarge (axisIn-front a t) ∙ s,
     )
 
-pub holds-tableOf : (axes : List Axis) (rest : List ℕ) → any unknown axes ≡ false → any badLength axes ≡ false → any tooLarge axes ≡ false
+holds-tableOf : (axes : List Axis) (rest : List ℕ) → any unknown axes ≡ false → any badLength axes ≡ false → any tooLarge axes ≡ false
     → holds (length axes) (tableOf axes ++ rest) ≡ true
 unfolding any holds
 holds-tableOf [] rest u l s = refl

@@ -21,7 +21,7 @@ use Rattle.text.specs.Number.{isDigit, areDigits, digitsValue, fitting, 
 pub Bad-ne-Value : (v : ℕ) → Bad ≡ Value v → ⊥
 Bad-ne-Value v e = let z : _≡_ {A = ℕ} 0 1 = cc in omega arith
 
-pub Value-inj : (v w : ℕ) → Value v ≡ Value w → v ≡ w
+Value-inj : (v w : ℕ) → Value v ≡ Value w → v ≡ w
 Value-inj v w e = cc
 
 -- what passes a test and fits
@@ -54,7 +54,7 @@ pushed-lt v c w e = fitting-value (isDigit c) (v * 10 + (c - digit0)) w e .2
 -- The value of digits
 
 -- it only grows
-pub decimal-ge : (v : ℕ) (cs : List ℕ) → v ≤ digitsValue v cs
+decimal-ge : (v : ℕ) (cs : List ℕ) → v ≤ digitsValue v cs
 unfolding digitsValue
 decimal-ge v [] = le-refl v
 decimal-ge v (c ∷ cs) = le-trans (more v (c - digit0)) (decimal-ge (v * 10 + (c - digit0)) cs)
@@ -76,8 +76,8 @@ decimal-lt v w (c ∷ a) (d ∷ b) h n t =
     decimal-lt (v * 10 + (c - digit0)) (w * 10 + (d - digit0)) a b (omega arith) (omega arith) (q .1)
 
 -- as many digits with the same value are the same
-pub decimal-inj : (v w : ℕ) (a b : List ℕ) → length a ≡ length b → areDigits a ≡ true → areDigits b ≡ true → digitsValue v a ≡ digitsValue w b
-    → (v ≡ w) × (a ≡ b)
+pub decimal-inj : (v w : ℕ) (a b : List ℕ) → length a ≡ length b → areDigits a ≡ true → areDigits b ≡ true
+    → digitsValue v a ≡ digitsValue w b → (v ≡ w) × (a ≡ b)
 unfolding areDigits digitsValue
 decimal-inj v w [] [] n s t e = (e, refl)
 decimal-inj v w [] (d ∷ b) n s t e = absurd (omega arith)

@@ -23,7 +23,7 @@ module _ (mark : ℕ) where
       go true h = omega arith
       go false h = omega arith
 
-  pub take-upTo : (s : List ℕ) → take (length (upTo mark s)) s ≡ upTo mark s
+  take-upTo : (s : List ℕ) → take (length (upTo mark s)) s ≡ upTo mark s
   unfolding upTo
   take-upTo [] = refl
   take-upTo (c ∷ s) = go (eqb c mark) (take-upTo s)
@@ -34,7 +34,7 @@ module _ (mark : ℕ) where
       go false e = ap (λ (l : List ℕ). c ∷ l) e
 
   -- where no mark follows, the part is all the text
-  pub upTo-all : (s : List ℕ) → length s ≤ length (upTo mark s) → upTo mark s ≡ s
+  upTo-all : (s : List ℕ) → length s ≤ length (upTo mark s) → upTo mark s ≡ s
   unfolding upTo
   upTo-all [] h = refl
   upTo-all (c ∷ s) h = go (eqb c mark) h (upTo-all s)
@@ -113,12 +113,7 @@ module _ (mark : ℕ) (text : List ℕ) (i e : ℕ) (is : e ≡ i + length (upTo
 
 -- The same bytes
 
-pub same-refl : (a : List ℕ) → same a a ≡ true
-unfolding same
-same-refl [] = refl
-same-refl (c ∷ a) = rw (eq-eqb c c refl) (same-refl a)
-
-pub same-eq : (a b : List ℕ) → same a b ≡ true → a ≡ b
+same-eq : (a b : List ℕ) → same a b ≡ true → a ≡ b
 unfolding same
 same-eq [] [] e = refl
 same-eq [] (d ∷ b) e = absurd (true≢false (sym e))

@@ -32,9 +32,9 @@ enum-told c = search needs
 
 returns : tie.Need-returns Inv-loop μ-loop
 returns c =
-    let b = c .before .before .before .before .before in
-    let l = b .loop in
-    let bad = sym (c .before .before .push .ensures) ∙ c .enum-told .given .1 in
+    let pushed = c .before .before in
+    let l = pushed .before .before .before .loop in
+    let bad = sym (pushed .push .ensures) ∙ c .enum-told .given .1 in
     sym (l .inv .1 ∙ digitsOf-stop _ (l .i) (l .v) (omega arith) bad)
 
 add-i : tie.Need-add-i Inv-loop μ-loop
@@ -45,9 +45,10 @@ loop-less c = search needs
 
 loop-again : tie.Need-loop-again Inv-loop μ-loop
 loop-again c =
-    let b = c .before .before .before .before .before .before in
+    let pushed = c .before .before .before in
+    let b = pushed .before .before .before in
     let s = b .before .before .args .field .now in
-    let e = sym (c .before .before .before .push .ensures) ∙ c .before .w .given .1 in
+    let e = sym (pushed .push .ensures) ∙ c .before .w .given .1 in
     (pushed-lt (b .loop .v) (getD s (b .loop .i) 0) _ e, b .loop .inv .1 ∙ digitsOf-next s (b .loop .i) (b .loop .v) _ (omega arith) e)
 
 returns-2 : tie.Need-returns-2 Inv-loop μ-loop

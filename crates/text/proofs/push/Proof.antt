@@ -19,12 +19,14 @@ returns-3 c =
 
 returns-4 : tie.Need-returns-4
 returns-4 c =
-    let a = c .before .before .before .before .args in
+    let high = c .before .before in
+    let a = high .before .before .args in
     sym (pushed-over (a .v) (a .c) (omega arith) (omega arith) (omega arith))
 
 returns-5 : tie.Need-returns-5
 returns-5 c =
-    let a = c .before .before .before .before .args in
+    let high = c .before .before in
+    let a = high .before .before .args in
     sym (pushed-fits (a .v) (a .c) (omega arith) (omega arith) (omega arith))
 
 pub push-spec : {M : Type 1} → statement M

@@ -29,8 +29,9 @@ shared-slice-read-if2-2 c = search needs
 
 returns-2 : tie.Need-returns-2 Inv-loop μ-loop
 returns-2 c =
-    let b = c .before .before .before .before in
-    sym (b .loop .inv ∙ same-differ _ _ (b .loop .i) (search needs) (search needs) (c .if2 .taken))
+    let turn = c .before .before .before in
+    let l = turn .before .loop in
+    sym (l .inv ∙ same-differ _ _ (l .i) (search needs) (search needs) (c .if2 .taken))
 
 add-i : tie.Need-add-i Inv-loop μ-loop
 add-i c = search needs
@@ -40,8 +41,9 @@ loop-less c = search needs
 
 loop-again : tie.Need-loop-again Inv-loop μ-loop
 loop-again c =
-    let b = c .before .before .before .before in
-    b .loop .inv ∙ same-next _ _ (b .loop .i) (search needs) (search needs) (c .if2 .left)
+    let turn = c .before .before .before in
+    let l = turn .before .loop in
+    l .inv ∙ same-next _ _ (l .i) (search needs) (search needs) (c .if2 .left)
 
 returns-3 : tie.Need-returns-3 Inv-loop μ-loop
 returns-3 c = sym (c .before .loop .inv ∙ same-end _ _ (c .before .loop .i) (search needs) (search needs))
