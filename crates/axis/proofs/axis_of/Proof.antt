@@ -20,9 +20,10 @@ use Rattle.axis.proofs.axis_of.Tie as tie
 bad-form-requires : tie.Need-bad-form-requires
 bad-form-requires c κs =
     let a = c .before in
-    let t = a .before .before .before .before in
+    let b = a .before in
+    let t = b .before .before .before in
     rw (a .any-field .ensures, ← fieldsFrom-thirdAt (now (t .before .before .args .line)), ← t .third-at .ensures)
-    (sym (held-of (a .before .block-at .ensures) .told))
+    (sym (held-of (b .block-at .ensures) .told))
 
 -- Where the form is tested: the arguments, the line's fields, which names came, and how many axes there are
 
@@ -56,7 +57,8 @@ form d = sym (d .bad-form .ensures)
 named : (c : tie.After-bad-name) → let d = c .before .before .before in badName (seen d) (nameOf (fields d)) ≡ c .bad-name .result
 named c =
     let d = c .before .before .before in
-    let n = d .before .before .before .before .before in
+    let b = d .before .before .before in
+    let n = b .before .before in
     rw (← n .name-of .ensures, ← c .before .came .ensures) (sym (c .bad-name .ensures))
 
 valued : (c : tie.After-bad-values)
@@ -64,7 +66,8 @@ valued : (c : tie.After-bad-values)
 valued c =
     let n = c .before .before in
     let d = n .before .before .before in
-    let g = d .before .before .before .before in
+    let b = d .before .before .before in
+    let g = b .before in
     let t = g .before .before in
     sym (c .bad-values .ensures
     ∙ badFrom-thirdAt (now (start d .args .line)) _ _ _ (t .third-at .ensures) (g .before .name-of .ensures) (g .greatest .ensures))

@@ -46,8 +46,10 @@ same-length c = c .before .before .loop .inv .0
 returns : tie.Need-returns Inv-loop μ-loop
 unfolding storedAt
 returns c =
-    let l = c .before .before .loop in
-    let line = now (c .before .before .before .before .before .before .args .line) in
+    let a = c .before .before in
+    let third = a .before in
+    let l = a .loop in
+    let line = now (third .before .before .before .args .line) in
     let past = c .if1 .taken in
     (sym (l .inv .3 ∙ rw (fitting-past line (l .p) _ past) (add-zero _)), sym (l .inv .1 ∙ rw (fieldsFrom-past line (l .p) past)))
 
@@ -87,7 +89,8 @@ loop-again : tie.Need-loop-again Inv-loop μ-loop
 loop-again c =
     let e = c .before .before in
     let a = e .before .before .before in
-    let x = a .before .before .before .before .args in
+    let third = a .before in
+    let x = third .before .before .before .args in
     let l = a .loop in
     let n = length (x .table .now) in (
       length-set (l .table) (l .i) _ ∙ l .inv .0,

@@ -54,12 +54,17 @@ returns-2 c =
 passed : (c : tie.Else2 Inv-loop μ-loop) → let t = c .before .before .before in holdsAxis (rest-at (t .before)) ≡ true
 passed c = held-of _ (holds-is (c .before)) (c .if2 .left)
 
-length-is : (c : tie.After-length Inv-loop μ-loop) → let t =
-    c .before .before .before .before in c .length .result ≡ lengthIn (rest-at (t .before))
-length-is c = let t = c .before .before .before .before in of-rest (t .before) lengthIn (c .length .ensures)
+length-is : (c : tie.After-length Inv-loop μ-loop)
+    → let e = c .before in
+    let t = e .before .before .before in c .length .result ≡ lengthIn (rest-at (t .before))
+length-is c =
+    let e = c .before in
+    let t = e .before .before .before in
+    of-rest (t .before) lengthIn (c .length .ensures)
 
-end-is : (c : tie.After-end Inv-loop μ-loop) → let t =
-    c .before .before .before .before .before in c .end .result ≡ sizeIn (rest-at (t .before))
+end-is : (c : tie.After-end Inv-loop μ-loop)
+    → let e = c .before .before in
+    let t = e .before .before .before in c .end .result ≡ sizeIn (rest-at (t .before))
 end-is c =
     let e = c .before .before in
     let t = e .before .before .before in

@@ -18,15 +18,16 @@ loop-holds c = (omega arith, joined-start (c .before .args .name) (c .before .ar
 
 loop-again : tie.Need-loop-again Inv-loop μ-loop
 loop-again c =
-    let l = c .before .before .loop in
-    let x = c .before .before .before .before .args in
-    (omega arith, joined-next (x .name) (x .values .now) (l .all) (l .i) (c .before .loop-test .taken) (l .inv .1))
+    let l = c .before .before in
+    let x = l .before .before .args in
+    (omega arith, joined-next (x .name) (x .values .now) (l .loop .all) (l .loop .i) (c .before .loop-test .taken) (l .loop .inv .1))
 
 returns : tie.Need-returns Inv-loop μ-loop
 returns c =
     let l = c .before .before in
     let x = l .before .before .args in
-    joined-end (x .name) (x .values .now) (l .loop .all) (l .loop .i) _ (c .before .loop-test .left) (l .loop .inv .1) (c .greatest .ensures)
+    joined-end (x .name) (x .values .now) (l .loop .all) (l .loop .i) _
+    (c .before .loop-test .left) (l .loop .inv .1) (c .greatest .ensures)
 
 pub too-large-spec : {M : Type 1} → statement M
 too-large-spec =

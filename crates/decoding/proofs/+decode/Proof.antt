@@ -97,7 +97,8 @@ module _ (t : ℕ) where
   decode-returns-3 c =
       let r = c .before .before in
       let v = r .before .before .before in
-      let e = v .before .before .before .before in
+      let last = v .before in
+      let e = last .before .before .before in
       let a = e .before .before .before .args in
       r .decode .ensures
       ∙ rw (v .value2 .ensures, part-drop (sizeIn (a .table .now)) (a .table .now))

@@ -32,7 +32,8 @@ decode-requires c κs =
 returns-3 : tie.Need-returns-3
 returns-3 c =
     let r = c .before .before in
-    let d = r .before .before .before .before in
+    let asked = r .before in
+    let d = asked .before .before .before in
     let b = d .before .before in
     let n = b .before in
     let e = n .before in
