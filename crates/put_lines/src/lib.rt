@@ -11,7 +11,8 @@ pub const NUMBER: usize = put_bytes::DIGITS + 1;
 
 // A line of numbers.
 pub fn numbers(out: &mut [u8], at: usize, ns: &[u64]) -> usize
-    ensures { λ r. ⌜ r ≡ indexAfter at (numbersLine (now (ns .entry))) (length (now (out .entry))) ⌝ }
+    ensures { λ r.
+        ⌜ r ≡ indexAfter at (numbersLine (now (ns .entry))) (length (now (out .entry))) ⌝ }
     ensures { λ r.
         ⌜ now (out .exit) ≡ putIf at (numbersLine (now (ns .entry))) (now (out .entry)) ⌝ }
 {

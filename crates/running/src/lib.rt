@@ -20,6 +20,9 @@ use run::Listed;
 use run::Ran;
 use settings::Settings;
 
+// A budget that no drawing's pixels exceed.
+const UNLIMITED: u64 = u64::MAX;
+
 // Copies a memory over another of its size.
 fn copy(from: &[u16], to: &mut [u16])
     requires { ⌜ length (now from) ≡ length (now to) ⌝ }
@@ -51,7 +54,7 @@ fn run_over(image: &[u16], memory: &mut [u16], op: Operation, s: Settings) -> Ra
         × (now (memory .exit) ≡ drawn op s 0 unlimited (now (image .entry))) ⌝ }
 {
     copy(image, memory);
-    let o = drawing::draw(memory, op, s, 0, false, 18446744073709551615);
+    let o = drawing::draw(memory, op, s, 0, false, UNLIMITED);
     let c = memory::changed(image, memory);
     Ran {
         answer: o.answer,

@@ -34,15 +34,18 @@ text : (c : tie.After-bytes3)
     × (c .bytes3 .result ≡ length (take (c .bytes3 .result) (c .bytes3 .last .0)))
     × (take (c .bytes3 .result) (c .bytes3 .last .0) ≡ namesLine)
 text c =
-    let second = c .before .before .before .before in
-    let first = second .before .before .before .before in
+    let lent = c .before .before in
+    let second = lent .before .before in
+    let names-lent = second .before .before in
+    let first = names-lent .before .before in
     let list = first .before .before .before in
     pieces _ _ _ _ _ _ _ (list .list .ensures) (first .bytes .ensures) (second .bytes2 .ensures) (c .bytes3 .ensures)
 
 returns : tie.Need-returns
 returns c =
     let last = c .before .before in
-    rw (text (last .before .before .before .before) .2) at (last .bytes4 .ensures)
+    let lent = last .before .before in
+    rw (text (lent .before .before) .2) at (last .bytes4 .ensures)
 
 pub put-names-spec : {M : Type 1} → statement M
 put-names-spec =

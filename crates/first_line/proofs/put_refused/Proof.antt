@@ -28,21 +28,23 @@ pieces number line i j s t p q =
     first-bytes (refusedLine number line) space l j t (f .0) (f .1)
 
 abbrev Start : tie.After-bytes → tie.Start
-Start c = c .before .before .before .before
+Start c = let lent = c .before .before in lent .before .before
+
+abbrev first : tie.After-numbers → tie.After-bytes
+first c = let lent = c .before .before in lent .before .before
 
 -- the text that is made
 text : (c : tie.After-numbers)
-    → let start = Start (c .before .before .before .before) in (c .numbers .result ≤ length (c .numbers .last .0))
+    → let start = Start (first c) in (c .numbers .result ≤ length (c .numbers .last .0))
     × (c .numbers .result ≡ length (take (c .numbers .result) (c .numbers .last .0)))
     × (take (c .numbers .result) (c .numbers .last .0) ≡ refusedLine (start .args .number) (start .args .line))
-text c =
-    let first = c .before .before .before .before in
-    pieces _ _ _ _ _ _ (first .bytes .ensures) (c .numbers .ensures)
+text c = pieces _ _ _ _ _ _ (first c .bytes .ensures) (c .numbers .ensures)
 
 returns : tie.Need-returns
 returns c =
     let last = c .before .before in
-    rw (text (last .before .before .before .before) .2) at (last .bytes2 .ensures)
+    let lent = last .before .before in
+    rw (text (lent .before .before) .2) at (last .bytes2 .ensures)
 
 pub put-refused-spec : {M : Type 1} → statement M
 put-refused-spec =

@@ -25,15 +25,16 @@ copy-requires : tie.Need-copy-requires
 copy-requires c κs = room (c .before)
 
 add-result : tie.Need-add-result
-add-result c = omega (arith, room (c .before .before .before .before))
+add-result c = let copied = c .before .before in omega (arith, room (copied .before .before))
 
 same-length : tie.Need-same-length
 same-length c = search needs
 
 returns : tie.Need-returns
 returns c =
-    let d = placed _ _ _ (room (c .before .before .before .before)) in
-    (d .0, c .before .before .copy .ensures ∙ d .1)
+    let copied = c .before .before in
+    let d = placed _ _ _ (room (copied .before .before)) in
+    (d .0, copied .copy .ensures ∙ d .1)
 
 returns-2 : tie.Need-returns-2
 returns-2 c = not-placed _ (now (Start (c .before) .args .from)) _ (sym (c .before .has-room .ensures) ∙ c .if1 .left)

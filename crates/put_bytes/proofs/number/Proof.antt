@@ -14,6 +14,9 @@ use Rattle.put_bytes.proofs.number.Tie as tie
 abbrev Start : tie.After-decimal → tie.Start
 Start c = c .before .before .before
 
+abbrev past : tie.After-copy → tie.Then1
+past c = c .before .before .before
+
 -- past the test
 room : (c : tie.Then1)
     → Start (c .before .before) .args .at + (c .before .before .decimal .result + 1) ≤ length (now (Start (c .before .before) .args .out))
@@ -38,26 +41,27 @@ copy-requires : tie.Need-copy-requires
 copy-requires c κs = omega (arith, room (c .before .before))
 
 add-out : tie.Need-add-out
-add-out c = omega (arith, room (c .before .before .before .before .before))
+add-out c = omega (arith, room (past (c .before .before)))
 
 slice-write-out : tie.Need-slice-write-out
-slice-write-out c = omega (arith, room (c .before .before .before .before .before))
+slice-write-out c = omega (arith, room (past (c .before .before)))
 
 add-result : tie.Need-add-result
-add-result c = omega (arith, room (c .before .before .before .before .before))
+add-result c = omega (arith, room (past (c .before .before)))
 
 add-result-2 : tie.Need-add-result-2
-add-result-2 c = omega (arith, room (c .before .before .before .before .before))
+add-result-2 c = omega (arith, room (past (c .before .before)))
 
 same-length : tie.Need-same-length
 same-length c = search needs
 
 returns : tie.Need-returns
 returns c =
-    let a = c .before .before .before .before .before .before .before in
+    let copied = c .before .before in
+    let a = past copied .before .before in
     let d = a .decimal .ensures in
-    number-placed _ _ _ _ _ (Start a .fits .n .fits) (d .1 .0) _ _ (d .1 .1) (c .before .before .copy .ensures)
-    (room (c .before .before .before .before .before))
+    number-placed _ _ _ _ _ (Start a .fits .n .fits) (d .1 .0) _ _ (d .1 .1) (copied .copy .ensures)
+    (room (past copied))
 
 returns-2 : tie.Need-returns-2
 returns-2 c =

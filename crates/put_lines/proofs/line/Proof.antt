@@ -36,9 +36,11 @@ loop-less c = omega arith
 
 loop-again : tie.Need-loop-again Inv-loop μ-loop
 loop-again c =
-    let l = c .before .before .before .before .before .before in
+    let put = c .before .before in
+    let turn = put .before .before .before in
+    let l = turn .before in
     let fits = l .before .before .before .pre .1 in
-    (omega arith, lined-step _ _ _ fits _ _ _ (l .loop .inv .1) _ _ (omega arith) (c .before .before .number .ensures))
+    (omega arith, lined-step _ _ _ fits _ _ _ (l .loop .inv .1) _ _ (omega arith) (put .number .ensures))
 
 mul-number-2 : tie.Need-mul-number-2 Inv-loop μ-loop
 mul-number-2 c = search needs
@@ -50,12 +52,17 @@ number-requires-2 : tie.Need-number-requires-2 Inv-loop μ-loop
 number-requires-2 c κs = search needs
 
 same-length : tie.Need-same-length Inv-loop μ-loop
-same-length c = c .before .before .number2 .kept .0 ∙ c .before .before .before .before .before .before .loop .inv .1 .size
+same-length c =
+    let put = c .before .before in
+    let done = put .before .before .before in
+    put .number2 .kept .0 ∙ done .before .loop .inv .1 .size
 
 returns : tie.Need-returns Inv-loop μ-loop
 returns c =
-    let l = c .before .before .before .before .before .before in
-    lined-end _ _ _ (l .before .before .before .pre .1) _ _ _ (l .loop .inv .1) _ _ (omega arith) (c .before .before .number2 .ensures)
+    let put = c .before .before in
+    let done = put .before .before .before in
+    let l = done .before in
+    lined-end _ _ _ (l .before .before .before .pre .1) _ _ _ (l .loop .inv .1) _ _ (omega arith) (put .number2 .ensures)
 
 pub line-spec : {M : Type 1} → statement M
 line-spec =

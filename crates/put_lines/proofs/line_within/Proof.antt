@@ -30,9 +30,10 @@ places-requires c κs = search needs
 
 returns : tie.Need-returns Inv-loop μ-loop
 returns c =
-    let l = c .before .before .before .before in
+    let turn = c .before .before .before in
+    let l = turn .before in
     let p = c .before .places in
-    sym (l .loop .inv .0 ∙ within-stop _ _ _ (p .result) (c .before .before .before .loop-test .taken) (p .ensures) (c .if1 .taken))
+    sym (l .loop .inv .0 ∙ within-stop _ _ _ (p .result) (turn .loop-test .taken) (p .ensures) (c .if1 .taken))
 
 sub-left : tie.Need-sub-left Inv-loop μ-loop
 sub-left c = omega arith
@@ -48,8 +49,9 @@ loop-less c = omega arith
 
 loop-again : tie.Need-loop-again Inv-loop μ-loop
 loop-again c =
-    let l = c .before .before .before .before in (
-      l .loop .inv .0 ∙ within-step _ _ _ _ (c .before .before .before .loop-test .taken) (c .before .places .ensures) (c .if1 .left),
+    let turn = c .before .before .before in
+    let l = turn .before in (
+      l .loop .inv .0 ∙ within-step _ _ _ _ (turn .loop-test .taken) (c .before .places .ensures) (c .if1 .left),
       omega arith,
     )
 

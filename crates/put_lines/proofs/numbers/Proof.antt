@@ -14,7 +14,7 @@ use Rattle.put_lines.proofs.numbers.Statement.{statement}
 use Rattle.put_lines.proofs.numbers.Tie as tie
 
 abbrev Start : tie.After-line-fits → tie.Start
-Start c = c .before .before .before .before
+Start c = let past = c .before in past .before .before .before
 
 -- the second test, of one number or more
 some : (c : tie.After-line-fits) → 0 < length (now (Start c .args .ns))
@@ -35,8 +35,9 @@ same-length c = search needs
 
 returns : tie.Need-returns
 returns c =
-    let e = c .before .before .before .before .before in
-    rw (numbersLine-empty (now (e .before .before .before .args .ns)) (e .if1 .taken)) (c .before .before .bytes .ensures)
+    let put = c .before .before in
+    let e = put .before .before .before in
+    rw (numbersLine-empty (now (e .before .before .before .args .ns)) (e .if1 .taken)) (put .bytes .ensures)
 
 line-fits-requires : tie.Need-line-fits-requires
 line-fits-requires c κs = search needs
@@ -49,9 +50,10 @@ same-length-2 c = search needs
 
 returns-2 : tie.Need-returns-2
 returns-2 c =
-    let t = c .before .before .before .before in
+    let put = c .before .before in
+    let t = put .before .before in
     let d = placed _ _ _ (leb-true _ _ (sym (test (t .before)) ∙ t .if2 .taken)) in
-    (c .before .before .line .ensures .0 ∙ d .0, c .before .before .line .ensures .1 ∙ d .1)
+    (put .line .ensures .0 ∙ d .0, put .line .ensures .1 ∙ d .1)
 
 returns-3 : tie.Need-returns-3
 returns-3 c = not-placed _ (numbersLine (now (Start (c .before) .args .ns))) _ (sym (test (c .before)) ∙ c .if2 .left)

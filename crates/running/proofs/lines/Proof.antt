@@ -12,25 +12,30 @@ use Rattle.run.proofs.AnswerLaws.{last-lt, shaped, ends-nine, ends-ten, ends-tw
 use Rattle.running.proofs.lines.Statement.{statement}
 use Rattle.running.proofs.lines.Tie as tie
 
+abbrev Start : tie.After-bad-shape → tie.Start
+Start c = let lent = c .before .before in lent .before .before .before
+
 -- past the test of the shape, and past that of the memory
 shape : (c : tie.Else1)
-    → let x = c .before .before .before .before .before .before .args in
+    → let x = Start (c .before) .args in
     badShape (length (x .image .now)) (length (x .memory .now)) (x .draw) (x .count) (length (x .out .now)) ≡ false
 shape c = sym (c .before .bad-shape .ensures) ∙ c .if1 .left
 
 some : (c : tie.Else2)
     → let s = c .before .before in
-    let x = s .before .before .before .before .before .before .args in noMemory (length (x .image .now)) ≡ false
+    let x = Start (s .before) .args in noMemory (length (x .image .now)) ≡ false
 some c = sym (c .before .no-memory .ensures) ∙ c .if2 .left
 
 -- the test of the points is the definition's
 points-is : (c : tie.After-ends-past)
-    → let s = c .before .before .before .before in
-    let x = s .before .before .before .before .before .before .args in
+    → let m = c .before .before in
+    let s = m .before .before in
+    let x = Start (s .before) .args in
     c .ends-past .result ≡ badPoints (x .axes) (x .table .now) (x .first) (x .count)
 points-is c =
-    let s = c .before .before .before .before in
-    let x = s .before .before .before .before .before .before .args in
+    let m = c .before .before in
+    let s = m .before .before in
+    let x = Start (s .before) .args in
     c .ends-past .ensures ∙ ap (λ (n : ℕ). endsPast n (x .first) (x .count)) (c .before .points .ensures)
 
 bad-shape-requires : tie.Need-bad-shape-requires
@@ -38,7 +43,7 @@ bad-shape-requires c κs = search needs
 
 returns : tie.Need-returns
 returns c =
-    let x = c .before .before .before .before .before .before .args in
+    let x = Start (c .before) .args in
     ends-nine (x .draw) (x .axes) (x .table .now) (x .first) (x .count) (x .image .now) (x .memory .now) (x .out .now)
     (sym (c .before .bad-shape .ensures) ∙ c .if1 .taken)
 
@@ -48,7 +53,7 @@ no-memory-requires c κs = search needs
 returns-2 : tie.Need-returns-2
 returns-2 c =
     let s = c .before .before in
-    let x = s .before .before .before .before .before .before .args in
+    let x = Start (s .before) .args in
     ends-ten (x .draw) (x .axes) (x .table .now) (x .first) (x .count) (x .image .now) (x .memory .now) (x .out .now) (shape s)
     (sym (c .before .no-memory .ensures) ∙ c .if2 .taken)
 
@@ -62,7 +67,7 @@ returns-3 : tie.Need-returns-3
 returns-3 c =
     let m = c .before .before .before in
     let s = m .before .before in
-    let x = s .before .before .before .before .before .before .args in
+    let x = Start (s .before) .args in
     ends-twenty-four (x .draw) (x .axes) (x .table .now) (x .first) (x .count) (x .image .now) (x .memory .now) (x .out .now) (shape s)
     (some m)
     (sym (points-is (c .before)) ∙ c .if3 .taken)
@@ -72,7 +77,7 @@ run-points-requires c κs =
     let p = c .before .before .before in
     let m = p .before .before .before in
     let s = m .before .before in
-    let x = s .before .before .before .before .before .before .args in
+    let x = Start (s .before) .args in
     let h = shaped (length (x .image .now)) (length (x .memory .now)) (x .draw) (x .count) (length (x .out .now)) (shape s) in
     let l : badPoints (x .axes) (x .table .now) (x .first) (x .count) ≡ false = sym (points-is (p .before)) ∙ p .if3 .left in
     let n = pointsIn (x .axes) (x .table .now) in
@@ -90,11 +95,13 @@ same-length-3 c = search needs
 
 returns-4 : tie.Need-returns-4
 returns-4 c =
-    let r = c .before .before .before .before .before .before in
-    let p = r .before .before .before .before in
+    let memory = c .before .before .before in
+    let r = memory .before .before .before in
+    let asked = r .before in
+    let p = asked .before .before .before in
     let m = p .before .before .before in
     let s = m .before .before in
-    let x = s .before .before .before .before .before .before .args in
+    let x = Start (s .before) .args in
     ends-done (x .draw) (x .axes) (x .table .now) (x .first) (x .count) (x .image .now) (x .memory .now) (x .out .now) (shape s) (some m)
     (sym (points-is (p .before)) ∙ p .if3 .left)
     (r .run-points .ensures .0) (r .run-points .ensures .1 .0) (r .run-points .ensures .1 .1 .0) (r .run-points .ensures .1 .1 .1)

@@ -24,7 +24,8 @@ returns-2 : tie.Need-returns-2
 unfolding imaged
 returns-2 c =
     let f = c .before .before in
-    f .fill-image .ensures .1 ∙ rw (f .before .before .before .before .pre .0)
+    let other = f .before .before in
+    f .fill-image .ensures .1 ∙ rw (other .before .before .pre .0)
 
 pub prepare-spec : {M : Type 1} → statement M
 prepare-spec = tie.close (tie.spec returns fill-image-requires same-length returns-2)

@@ -23,9 +23,12 @@ same-length c = search needs
 returns : tie.Need-returns
 unfolding ranOver
 returns c =
-    let d = c .before .before .before .before in
-    let k = d .before .before .before .before in
-    let start = k .before .before .before .before in
+    let after = c .before .before .before in
+    let d = after .before in
+    let copied = d .before .before .before in
+    let k = copied .before in
+    let lent = k .before .before in
+    let start = lent .before .before in
     let image = start .args .image .now in
     let l : length (d .draw .last .0) ≡ length image = omega arith in
     let n = counted-bits image (d .draw .last .0) (start .pre .1) l in

@@ -8,6 +8,9 @@ use Rattle.running.proofs.ProgressLaws.{line-fits, point-run}
 use Rattle.running.proofs.run_point.Statement.{statement}
 use Rattle.running.proofs.run_point.Tie as tie
 
+abbrev Start : tie.After-experiment-of → tie.Start
+Start e = let lent = e .before .before in lent .before .before .before
+
 experiment-of-requires : tie.Need-experiment-of-requires
 experiment-of-requires c κs = search needs
 
@@ -19,8 +22,9 @@ operation-of-requires c κs = search needs
 
 run-over-requires : tie.Need-run-over-requires
 run-over-requires c κs =
-    let g = c .before .before .before .before .before in
-    let start = g .before .before .before .before .before .before .before in
+    let f = c .before .before in
+    let g = f .before .before .before in
+    let start = Start (g .before .before) in
     let l : length (g .prepare .last .0) ≡ length (start .args .image .now) = omega arith in
     (l ∙ start .pre .1 .0 .1, rw l (start .pre .1 .0 .0))
 
@@ -30,7 +34,7 @@ put-line-requires c κs =
     let f = o .before .before .before in
     let g = f .before .before .before in
     let e = g .before .before in
-    let start = e .before .before .before .before .before in
+    let start = Start e in
     let x = start .args in
     line-fits (length (x .image .now)) (x .draw) (axesIn (x .axes) (x .table .now)) (x .point) (x .p)
     (e .experiment-of .ensures .0) (e .experiment-of .ensures .1) (g .prepare .ensures) (f .operation-of .ensures) (o .run-over .ensures .0)
@@ -48,11 +52,12 @@ same-length-3 c = search needs
 returns : tie.Need-returns
 returns c =
     let u = c .before .before in
-    let o = u .before .before .before .before in
+    let line = u .before in
+    let o = line .before .before .before in
     let f = o .before .before .before in
     let g = f .before .before .before in
     let e = g .before .before in
-    let start = e .before .before .before .before .before in
+    let start = Start e in
     let x = start .args in
     point-run (length (x .image .now)) (x .draw) (axesIn (x .axes) (x .table .now)) (x .point) (x .p)
     (e .experiment-of .ensures .0) (e .experiment-of .ensures .1) (g .prepare .ensures) (f .operation-of .ensures) (o .run-over .ensures .0)

@@ -26,7 +26,8 @@ run-point-requires : tie.Need-run-point-requires Inv-loop μ-loop
 run-point-requires c κs =
     let t = c .before .before .before in
     let h = t .before .loop .inv in
-    let begin = t .before .before .before .before .before .before in
+    let lent = t .before .before .before in
+    let begin = lent .before .before .before in
     let x = begin .args in
     let held = axesIn (x .axes) (x .table .now) in
     let below = t .loop-test .taken in
@@ -47,10 +48,13 @@ loop-less c = omega arith
 
 loop-again : tie.Need-loop-again Inv-loop μ-loop
 loop-again c =
-    let r = c .before .before .before .before .before .before in
-    let t = r .before .before .before .before in
+    let memory = c .before .before .before in
+    let r = memory .before .before .before in
+    let asked = r .before in
+    let t = asked .before .before .before in
     let h = t .before .loop .inv in
-    let begin = t .before .before .before .before .before .before in
+    let lent = t .before .before .before in
+    let begin = lent .before .before .before in
     let x = begin .args in
     turn (x .draw) (axesIn (x .axes) (x .table .now)) (x .first) (x .count) (x .image .now) (x .memory .now) (x .out .now)
     (begin .pre .1 .1) (t .loop-test .taken) h
