@@ -11,6 +11,9 @@ use segments::FLAGS;
 use segments::SEGMENTS;
 use segments::Segment;
 
+// 2^9: the bits of a segment.
+const SEGMENT_BITS: u32 = 512;
+
 // order[0] is the least recently used segment and order[3] the latest.
 pub struct Cache {
     pub segments: [Segment; SEGMENTS],
@@ -79,7 +82,7 @@ impl Cache {
             };
         }
         let sub = (address / 64 % 8) as usize;
-        self.looked_up(address / 512, sub)
+        self.looked_up(address / SEGMENT_BITS, sub)
     }
 
     // A fetch of a subsegment of a start address, with the cache enabled.

@@ -39,7 +39,7 @@ module _ (m : List ℕ) (a n : ℕ) (p : 0 < n) (h : n ≤ 32) where
   pub register-zero : (signed : Bool) → cond signed (bitAt m (a + n - 1)) 0 ≡ 0 → register m a n signed ≡ bitsNumber (bitAt m) a n
   register-zero signed e = omega (arith, filled signed 0 e)
 
-  pub register-sign : bitAt m (a + n - 1) ≡ 1 → register m a n true ≡ bitsNumber (bitAt m) a n + (2 ^ 32 - 2 ^ n)
+  register-sign : bitAt m (a + n - 1) ≡ 1 → register m a n true ≡ bitsNumber (bitAt m) a n + (2 ^ 32 - 2 ^ n)
   register-sign e = omega (arith, filled true 1 e, pow-mono h)
 
   -- by the code's test, on the top bit as it finds it

@@ -21,7 +21,7 @@ module _ {n : ℕ} {m : List ℕ} (g : Memory n m) where
   pub window-one : (i : ℕ) → windowOf m i 1 ≡ getD m i 0
   window-one i = word-number g i
 
-  pub window-more : (i k : ℕ) → windowOf m i (1 + k) ≡ getD m i 0 + 65536 * windowOf m (i + 1) k
+  window-more : (i k : ℕ) → windowOf m i (1 + k) ≡ getD m i 0 + 65536 * windowOf m (i + 1) k
   window-more i k =
       let e : 16 * (1 + k) ≡ 16 + 16 * k = omega arith in
       let f : 16 * i + 16 ≡ 16 * (i + 1) = omega arith in
@@ -40,7 +40,7 @@ module _ {n : ℕ} {m : List ℕ} (g : Memory n m) where
   pub store-one : (i v : ℕ) → i < n → set m i (v % 65536) ≡ withField m (16 * i) 16 v
   store-one i v h = set-withField i v g h
 
-  pub store-more : (i k v : ℕ) → i + k < n
+  store-more : (i k v : ℕ) → i + k < n
       → set (withField m (16 * i) (16 * k) v) (i + k) (v / 2 ^ (16 * k) % 65536) ≡ withField m (16 * i) (16 * k + 16) v
   store-more i k v h =
       let e : 16 * (i + k) ≡ 16 * i + 16 * k = omega arith in

@@ -6,6 +6,12 @@ ghost use lib.ListN.{length};
 ghost use Rattle.memory.specs.Bits.{Memory, bitAt, bitsNumber, withBits, withField};
 ghost use Rattle.field.specs.Field.{fieldRefusal, register, fieldRead, fieldWritten};
 
+// 2^16: words are less.
+const WORDS: u64 = 65536;
+
+// 2^32: registers are less.
+const REGISTERS: u64 = 4294967296;
+
 // The answer, 0 or the refusal's number, and the register of 32 bits.
 pub struct FieldRead {
     pub answer: u32,
@@ -49,7 +55,7 @@ fn read_register(memory: &[u16], address: u64, size: u64, signed: bool) -> u32
     let bits = read_bits(memory, address, size);
     let top = taken(bits, size - 1, 1);
     if signed & (top == 1) {
-        return (bits + (4294967296 - power(size))) as u32;
+        return (bits + (REGISTERS - power(size))) as u32;
     }
     bits as u32
 }
@@ -119,10 +125,10 @@ fn window(memory: &[u16], at: usize, count: u64) -> u64
     }
     let b = wide(memory[at + 1]);
     if count == 2 {
-        return a + 65536 * b;
+        return a + WORDS * b;
     }
     let c = wide(memory[at + 2]);
-    a + 65536 * (b + 65536 * c)
+    a + WORDS * (b + WORDS * c)
 }
 
 // Stores the lowest one to three words of a number, the lowest first.
@@ -132,15 +138,15 @@ fn store(memory: &mut [u16], at: usize, count: u64, v: u64)
     ensures { λ _. ⌜ now (memory .exit)
         ≡ withField (now (memory .entry)) (16 * at) (16 * count) v ⌝ }
 {
-    memory[at] = (v % 65536) as u16;
+    memory[at] = (v % WORDS) as u16;
     if count == 1 {
         return;
     }
-    memory[at + 1] = (v / 65536 % 65536) as u16;
+    memory[at + 1] = (v / WORDS % WORDS) as u16;
     if count == 2 {
         return;
     }
-    memory[at + 2] = (v / 65536 / 65536 % 65536) as u16;
+    memory[at + 2] = (v / WORDS / WORDS % WORDS) as u16;
 }
 
 // A number with the n low bits of x in the place of its bits s to s + n - 1.
@@ -177,7 +183,7 @@ fn power(n: u64) -> u64
 
 // A word as a number of 64 bits.
 fn wide(w: u16) -> u64
-    ensures { λ r. ⌜ (r ≡ w) × (r < 65536) ⌝ }
+    ensures { λ r. ⌜ (r ≡ w) × (r < 2 ^ 16) ⌝ }
 {
     w as u64
 }

@@ -12,7 +12,7 @@ use Rattle.generator.proofs.StepLaws.{stepped-lt}
 use Rattle.image.specs.Image.{words, draws, image}
 use Rattle.image.specs.Words.{storedWords}
 
-pub length-storedWords : (k : ℕ) (m : List ℕ) (i x : ℕ) → length (storedWords k m i x) ≡ length m
+length-storedWords : (k : ℕ) (m : List ℕ) (i x : ℕ) → length (storedWords k m i x) ≡ length m
 unfolding storedWords
 length-storedWords zero m i x = refl
 length-storedWords (suc k) m i x = length-storedWords k (set m i (x % 2 ^ 16)) (i + 1) (x / 2 ^ 16) ∙ length-set m i (x % 2 ^ 16)

@@ -5,6 +5,15 @@ ghost use lib.ListN.{length};
 ghost use Rattle.image.specs.Image.{image, imageRefusal, imaged};
 ghost use Rattle.image.specs.Words.{storedWords};
 
+// 2^16: words are less.
+const WORDS: u64 = 65536;
+
+// 2^32: two words are less.
+const WORDS_2: u64 = 4294967296;
+
+// 2^48: three words are less.
+const WORDS_3: u64 = 281474976710656;
+
 // Fills the memory with the image of the seed, and answers 0 or the refusal's number.
 pub fn fill_image(memory: &mut [u16], seed: u64) -> u32
     ensures { λ r. let m = now (memory .entry) in
@@ -39,10 +48,10 @@ fn put(memory: &mut [u16], at: usize, x: u64)
     if memory.len() - at < 4 {
         return put_last(memory, at, x);
     }
-    memory[at] = (x % 65536) as u16;
-    memory[at + 1] = (x / 65536 % 65536) as u16;
-    memory[at + 2] = (x / 4294967296 % 65536) as u16;
-    memory[at + 3] = (x / 281474976710656) as u16;
+    memory[at] = (x % WORDS) as u16;
+    memory[at + 1] = (x / WORDS % WORDS) as u16;
+    memory[at + 2] = (x / WORDS_2 % WORDS) as u16;
+    memory[at + 3] = (x / WORDS_3) as u16;
 }
 
 // The same where the memory ends first.
@@ -53,8 +62,8 @@ fn put_last(memory: &mut [u16], at: usize, x: u64)
     let mut rest = x;
     let mut i = at;
     while i < memory.len() {
-        memory[i] = (rest % 65536) as u16;
-        rest /= 65536;
+        memory[i] = (rest % WORDS) as u16;
+        rest /= WORDS;
         i += 1;
     }
 }

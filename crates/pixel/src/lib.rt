@@ -17,7 +17,7 @@ pub fn top_of(psize: u16) -> u16
     if psize < 16 {
         (1u16 << psize) - 1
     } else {
-        65535
+        u16::MAX
     }
 }
 

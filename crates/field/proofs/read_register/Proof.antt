@@ -36,7 +36,8 @@ power-requires c κs = search needs
 
 sub-result : tie.Need-sub-result
 sub-result c =
-    let x = c .before .before .before .before .before .args in
+    let k = c .before .before .before in
+    let x = k .before .before .args in
     rw (c .power .ensures) (pow-mono {i = x .size} {j = 32} (omega arith))
 
 add-result : tie.Need-add-result

@@ -47,8 +47,9 @@ add-result c = search needs
 
 returns-2 : tie.Need-returns-2
 returns-2 c =
-    let w = c .before .before .before .before in
-    ap₂ (λ (x y : ℕ). x + 65536 * y) (w .wide .ensures .0) (c .before .wide2 .ensures .0)
+    let b = c .before in
+    let w = b .before .before .before in
+    ap₂ (λ (x y : ℕ). x + 65536 * y) (w .wide .ensures .0) (b .wide2 .ensures .0)
     ∙ sym (rw (c .if2 .taken) (window-two (lent (w .before .before)) (w .before .before .before .args .at)))
 
 add-wide-2 : tie.Need-add-wide-2

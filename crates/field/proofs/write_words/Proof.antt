@@ -22,7 +22,9 @@ put-requires c κs =
     (omega arith, omega arith, rw (c .window .ensures) (window-lt (x .memory .now) (x .at) (x .count) (omega arith)))
 
 store-requires : tie.Need-store-requires
-store-requires c κs = (search needs, search needs, search needs, lent (c .before .before .before .before))
+store-requires c κs =
+    let w = c .before .before in
+    (search needs, search needs, search needs, lent (w .before .before))
 
 same-length : tie.Need-same-length
 same-length c = search needs
