@@ -26,7 +26,7 @@ pub and-top : (p x : ℕ) → bitAnd x (topOf p) ≡ x % suc (topOf p)
 and-top p x = and-mask x (min p 16) ∙ ap (λ (y : ℕ). x % y) (sym (suc-ones (min p 16)))
 
 -- ---- bits above the mask don't matter
-pub and-low : (p x : ℕ) {y : ℕ} → y < 2 ^ p → bitAnd (bitAnd x (2 ^ p - 1)) y ≡ bitAnd x y
+and-low : (p x : ℕ) {y : ℕ} → y < 2 ^ p → bitAnd (bitAnd x (2 ^ p - 1)) y ≡ bitAnd x y
 and-low p x {y} h =
     let l : bitAnd x y < 2 ^ p = omega (arith, and-le-r x y) in
     ap₂ bitAnd (and-mask x p) (sym (mod-eq-of-lt h)) ∙ sym (and-mod x y p) ∙ mod-eq-of-lt l

@@ -31,7 +31,7 @@ module _ (w : Walk) where
   addressAt-parts r c = omega arith
 
   -- the next row, and the next column
-  pub addressAt-down : (r c : ℕ) → (addressAt w r c + w .pitch) % 2 ^ 32 ≡ addressAt w (r + 1) c
+  addressAt-down : (r c : ℕ) → (addressAt w r c + w .pitch) % 2 ^ 32 ≡ addressAt w (r + 1) c
   unfolding addressAt
   addressAt-down r c = omega (arith, add-mul r 1 (w .pitch), one-mul (w .pitch))
 

@@ -1,6 +1,6 @@
 -- Windows: what W means, case by case; what is kept; the common rectangle is the intersection. No contract cites this file.
 -- Assumes nothing.
-use mathlib.Core.Path.{_≡_, refl, ap}
+use mathlib.Core.Path.{_≡_, refl, sym, ap, subst, _∙_}
 use mathlib.Core.Bool.{Bool, true, false, cond, not, and-eq-true-iff}
 use mathlib.Core.Logic.{_⊎_, inl, inr, ⊎-elim}
 use Prim.Native.Nat.{ℕ, suc, _+_, _-_, _≤_, _<_, max}
@@ -54,13 +54,13 @@ vUnder-twice w r win v = go (eqb w 0) _
 
 -- ---- on one axis: n coordinates from c on, and a window from lo to hi
 module _ (c n lo hi : ℕ) where
-  pub shared-le : shared c n lo hi ≤ n
+  shared-le : shared c n lo hi ≤ n
   shared-le = omega arith
 
-  pub before-shared-le : 0 < shared c n lo hi → leading c lo + shared c n lo hi ≤ n
+  before-shared-le : 0 < shared c n lo hi → leading c lo + shared c n lo hi ≤ n
   before-shared-le h = omega arith
 
-  pub allIn-true : allIn c n lo hi ≡ true → (lo ≤ c) × (c + n ≤ suc hi)
+  allIn-true : allIn c n lo hi ≡ true → (lo ≤ c) × (c + n ≤ suc hi)
   allIn-true e = (
     leb-true lo c (and-eq-true-iff (leb lo c) (leb (c + n) (suc hi)) .0 e .0),
     leb-true (c + n) (suc hi) (and-eq-true-iff (leb lo c) (leb (c + n) (suc hi)) .0 e .1),
@@ -70,12 +70,17 @@ module _ (c n lo hi : ℕ) where
 
 -- the whole, where W is 0 or the rectangle lies inside; nothing; or the common part
 module _ (w : ℕ) (r : Rectangle) (win : Window) (P : Clipped → Type 0) where
-  clipped-cases : ((w ≡ 0) ⊎ (inside r win ≡ true) → P (unclipped r)) → ((q : Bool) → P (nothing q)) → P (commonPart r win) → P (clipped w r win)
+  clipped-cases : ((w ≡ 0) ⊎ (inside r win ≡ true) → P (unclipped r))
+      → ((q : Bool) → P (nothing q)) → P (commonPart r win) → P (clipped w r win)
   unfolding clipped
   clipped-cases all none some = go (eqb w 0) (empty r) (eqb w 1) (meet r win) (eqb w 2) (inside r win) refl refl
     where
       go : (z e o m t i : Bool) → eqb w 0 ≡ z → inside r win ≡ i
-          → P (cond z (unclipped r) (cond e (nothing false) (cond o (nothing m) (cond t (cond i (unclipped r) (nothing true)) (commonPart r win)))))
+          → P
+          (cond z (unclipped r)
+          (cond e (nothing false)
+          (cond o (nothing m)
+          (cond t (cond i (unclipped r) (nothing true)) (commonPart r win)))))
       go true e o m t i p q = all (inl (eqb-true w 0 p))
       go false true o m t i p q = none false
       go false false true m t i p q = none m
@@ -119,7 +124,7 @@ module _ (r : Rectangle) (win : Window) (a b : ℕ) where
   seen-of-common p = omega arith
 
 -- the common part is the common rectangle
-pub kept-part : (r : Rectangle) (win : Window) → kept r (commonPart r win) ≡ common r win
+kept-part : (r : Rectangle) (win : Window) → kept r (commonPart r win) ≡ common r win
 unfolding common
 kept-part r win =
     λ i. record {
@@ -177,7 +182,8 @@ pixel-of-kept w r win a b =
     (λ p. omega arith)
 
 -- under W 1 to 3 they lie in the window
-pub seen-of-kept : (w : ℕ) (r : Rectangle) (win : Window) → (w ≡ 0 → ⊥) → (a b : ℕ) → InRectangle (kept r (clipped w r win)) a b → Seen win a b
+pub seen-of-kept : (w : ℕ) (r : Rectangle) (win : Window) → (w ≡ 0 → ⊥)
+    → (a b : ℕ) → InRectangle (kept r (clipped w r win)) a b → Seen win a b
 unfolding common
 seen-of-kept w r win nonzero a b =
     clipped-cases w r win (λ (k : Clipped). InRectangle (kept r k) a b → Seen win a b)
@@ -187,9 +193,9 @@ seen-of-kept w r win nonzero a b =
 
 -- under W 3 all pixels of the rectangle that lie in the window are kept
 pub kept-pixel : (r : Rectangle) (win : Window) (a b : ℕ) → InRectangle r a b → Seen win a b → InRectangle (kept r (clipped 3 r win)) a b
-unfolding common
 kept-pixel r win a b p s =
-    rw (clipped-three 3 r win (λ z. omega arith) (filled-of-pixel r a b p) (λ z. omega arith) (λ z. omega arith)) (omega arith)
+    let three = clipped-three 3 r win (λ z. omega arith) (filled-of-pixel r a b p) (λ z. omega arith) (λ z. omega arith) in
+    subst (λ (k : Rectangle). InRectangle k a b) (sym (ap (kept r) three ∙ kept-part r win)) (common-pixel r win a b p s)
 
 -- ---- the rectangles meet exactly where they have a pixel in common
 module _ (r : Rectangle) (win : Window) where
