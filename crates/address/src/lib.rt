@@ -6,7 +6,7 @@ ghost use Rattle.address.specs.Coordinate.{xOf, yOf, negative, halfOf, r
 use walk::Walk;
 
 // 2^16: the low half of a register is what is left of it, the high half how often it has it.
-const HALF: u32 = 65536;
+pub const HALF: u32 = 65536;
 
 // 2^15: the coordinate 0, as it is held.
 const ZERO: u32 = 32768;

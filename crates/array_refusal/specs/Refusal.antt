@@ -39,7 +39,8 @@ badSource op s c d =
     copiesPixels (sourceOf op)
     && ((fromXY op && negativeStart (s .saddr) c) || misaligned (s .psize) (d .src .start))
 
--- 17: some pixel or source bit that would be visited over the whole operation lies past the memory's end
+-- 17: some pixel or source bit that would be visited over the whole operation lies past the
+-- memory's end
 abbrev pub leaves : ℕ → Operation → Drawing → Bool
 leaves words op d =
     leavesMemory words (d .dest) (d .cols) (d .rows)

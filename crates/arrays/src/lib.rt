@@ -1,7 +1,8 @@
 // The arrays of a drawing after the window: what is drawn, and both walks.
 ghost use mathlib.Core.Path.{_≡_};
-ghost use Rattle.arrays.specs.Array.{rectangleOf, clippedArray, vAfter, startX, startY, destStart};
-ghost use Rattle.arrays.specs.Array.{stepOf, linearSource, srcStart, drawingOf};
+ghost use Rattle.arrays.specs.Array.{rectangleOf, clippedArray, vAfter, startX, startY};
+ghost use Rattle.arrays.specs.Array.{destStart, stepOf, linearSource, srcStart, drawingOf};
+use address::HALF;
 use operation::Operation;
 use plot::Drawing;
 use plot::Source;
@@ -17,8 +18,8 @@ pub fn rectangle_of(s: Settings) -> Rectangle
     Rectangle {
         x: address::x_of(s.daddr),
         y: address::y_of(s.daddr),
-        cols: (s.dydx % 65536) as u16,
-        rows: (s.dydx / 65536) as u16,
+        cols: (s.dydx % HALF) as u16,
+        rows: (s.dydx / HALF) as u16,
     }
 }
 
@@ -141,7 +142,7 @@ pub fn drawing_of(op: Operation, s: Settings, c: Clipped) -> Drawing
         pp,
         t,
         pmask: s.pmask,
-        color0: (s.color0 % 65536) as u16,
-        color1: (s.color1 % 65536) as u16,
+        color0: (s.color0 % HALF) as u16,
+        color1: (s.color1 % HALF) as u16,
     }
 }

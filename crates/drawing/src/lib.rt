@@ -116,7 +116,7 @@ fn outcome_at(
     if (control::windowing(s.control) == 1) & c.request {
         let r = common_rectangle(s);
         let found = address::register_of(r.x, r.y);
-        let size = (r.rows as u32) * 65536 + r.cols as u32;
+        let size = (r.rows as u32) * address::HALF + r.cols as u32;
         return Outcome {
             answer,
             place,

@@ -49,13 +49,16 @@ pixelAddress s xy = xyAddress (s .offset) (s .dptch) (s .psize) (xOf xy) (yOf xy
 
 -- an XY start has a negative X or Y, or its linear address isn't a multiple of PSIZE
 abbrev pub badLoneStart : Settings → ℕ → Bool
-badLoneStart s xy = negative (xOf xy) || (negative (yOf xy) || misaligned (s .psize) (pixelAddress s xy))
+badLoneStart s xy =
+    negative (xOf xy) || (negative (yOf xy) || misaligned (s .psize) (pixelAddress s xy))
 
 -- an XY pixel that is read: no window, V is kept
 unfoldable pub xySource : ℕ → Settings → ℕ → Bool → Lone
 xySource words s xy v =
     record {
-      answer = loneRefusal words s (badXYPitch (s .dptch)) false true (badLoneStart s xy) (pixelAddress s xy);
+      answer =
+          loneRefusal words s (badXYPitch (s .dptch)) false true
+          (badLoneStart s xy) (pixelAddress s xy);
       some = true;
       address = pixelAddress s xy;
       v = v;

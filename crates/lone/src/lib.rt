@@ -2,8 +2,8 @@
 ghost use mathlib.Core.Path.{_≡_};
 ghost use Prim.Native.Nat.{_*_};
 ghost use lib.Dec.{leb};
-ghost use Rattle.lone.specs.Lone.{badLoneStart, pixelAddress, rectangleAt, loneClip, loneV, loneRefusal};
-ghost use Rattle.lone.specs.Lone.{linearPixel, xySource, xyDestination};
+ghost use Rattle.lone.specs.Lone.{badLoneStart, pixelAddress, rectangleAt, loneClip, loneV};
+ghost use Rattle.lone.specs.Lone.{loneRefusal, linearPixel, xySource, xyDestination};
 use refusal::Tests;
 use settings::Settings;
 use windows::Clipped;

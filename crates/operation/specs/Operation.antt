@@ -1,4 +1,5 @@
--- The eight drawings: FILL L and XY; PIXBLT L,L, L,XY, XY,L, XY,XY, B,L and B,XY (the scope, "What is modelled"). Assumes nothing.
+-- The eight drawings: FILL L and XY; PIXBLT L,L, L,XY, XY,L, XY,XY, B,L and B,XY (the scope, "What
+-- is modelled"). Assumes nothing.
 use mathlib.Core.Bool.{Bool, true, false}
 use mathlib.Core.List.{List, [], _∷_}
 use Prim.Native.Nat.{ℕ}
@@ -6,11 +7,14 @@ use lib.ListN.{getD}
 use Rattle.plot.specs.declared.Source.{Source}
 use Rattle.plot.specs.declared.Source.the-variants.{Color, Pixels, Bits}
 use Rattle.operation.specs.declared.Operation.{Operation}
-use Rattle.operation.specs.declared.Operation.the-variants.{FillL, FillXY, PixbltLL, PixbltLXY, PixbltXYL, PixbltXYXY, PixbltBL, PixbltBXY}
+use Rattle.operation.specs.declared.Operation.the-variants.{FillL, FillXY, PixbltLL}
+use Rattle.operation.specs.declared.Operation.the-variants.{PixbltLXY, PixbltXYL}
+use Rattle.operation.specs.declared.Operation.the-variants.{PixbltXYXY, PixbltBL, PixbltBXY}
 
 -- the eight, numbered from 0 in that order; any other number is the last one's
 abbrev pub operations : List Operation
-operations = FillL ∷ FillXY ∷ PixbltLL ∷ PixbltLXY ∷ PixbltXYL ∷ PixbltXYXY ∷ PixbltBL ∷ PixbltBXY ∷ []
+operations =
+    FillL ∷ FillXY ∷ PixbltLL ∷ PixbltLXY ∷ PixbltXYL ∷ PixbltXYXY ∷ PixbltBL ∷ PixbltBXY ∷ []
 
 abbrev pub operationOf : ℕ → Operation
 operationOf number = getD operations number PixbltBXY

@@ -1,6 +1,7 @@
 // The eight drawings: where they draw to and what they draw from.
 ghost use mathlib.Core.Path.{_≡_};
-ghost use Rattle.operation.specs.Operation.{operationOf, toXY, fromXY, sourceOf, copies, copiesPixels};
+ghost use Rattle.operation.specs.Operation.{operationOf, toXY, fromXY, sourceOf};
+ghost use Rattle.operation.specs.Operation.{copies, copiesPixels};
 use plot::Source;
 
 // The eight drawings, in the scope's order.

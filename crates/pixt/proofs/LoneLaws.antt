@@ -27,12 +27,14 @@ shifted-back : (i p k value : ℕ) → value * 2 ^ k % 2 ^ (i + p + k) / 2 ^ k %
 shifted-back i p k value =
     ap (λ (x : ℕ). x % 2 ^ p) (field (value * 2 ^ k) (i + p) k ∙ ap (λ (x : ℕ). x % 2 ^ (i + p)) (shl-shr value k)) ∙ mod-mod-pow value i p
 
-pixelOf-shifted : (p a value : ℕ) → a % 16 + p ≤ 16 → pixelOf (2 ^ p - 1) (value * 2 ^ (a % 16) % 2 ^ 16) a ≡ bitAnd (value % 2 ^ 16) (2 ^ p - 1)
+pixelOf-shifted : (p a value : ℕ) → a % 16 + p ≤ 16
+    → pixelOf (2 ^ p - 1) (value * 2 ^ (a % 16) % 2 ^ 16) a ≡ bitAnd (value % 2 ^ 16) (2 ^ p - 1)
 pixelOf-shifted p a value h =
     let e : 16 - (a % 16 + p) + p + a % 16 ≡ 16 = omega arith in
     let f : 16 - p + p ≡ 16 = omega arith in
     pixelOf-mod p _ a
-    ∙ subst (λ (n : ℕ). value * 2 ^ (a % 16) % 2 ^ n / 2 ^ (a % 16) % 2 ^ p ≡ value % 2 ^ p) e (shifted-back (16 - (a % 16 + p)) p (a % 16) value)
+    ∙ subst (λ (n : ℕ). value * 2 ^ (a % 16) % 2 ^ n / 2 ^ (a % 16) % 2 ^ p ≡ value % 2 ^ p) e
+    (shifted-back (16 - (a % 16 + p)) p (a % 16) value)
     ∙ sym (and-mask (value % 2 ^ 16) p ∙ subst (λ (n : ℕ). value % 2 ^ n % 2 ^ p ≡ value % 2 ^ p) f (mod-mod-pow value (16 - p) p))
 
 -- ---- a pixel that is drawn has a size, and is aligned
@@ -54,20 +56,24 @@ module _ (words : ℕ) (s : Settings) where
   unfolding xyDestination
   xyDestination-aligned xy v e =
       let l : Lone = xyDestination words s xy v in
-      let p = passes _ _ (l .some) (badLoneStart s xy) (pixelAddress s xy) (eqb-true _ 0 (and-eq-true-iff _ (l .some) .0 e .0)) (and-eq-true-iff (eqb (l .answer) 0) _ .0 e .1) in
+      let accepted : l .answer ≡ 0 = eqb-true _ 0 (and-eq-true-iff _ (l .some) .0 e .0) in
+      let shown : l .some ≡ true = and-eq-true-iff (eqb (l .answer) 0) _ .0 e .1 in
+      let p = passes _ _ (l .some) (badLoneStart s xy) (pixelAddress s xy) accepted shown in
       (p .0, or-false-right (negative (yOf xy)) _ (or-false-right (negative (xOf xy)) _ (p .1)))
 
 -- ---- what is drawn from the shifted bits is what is drawn from the register
 module _ (s : Settings) (value : ℕ) (m : List ℕ) where
   drawnAt-shifted : (l : Lone) → Aligned s l
-      → loneDrawn s l (pixelOf (topOf (s .psize)) (value * 2 ^ (l .address % 16) % 2 ^ 16) (l .address)) m ≡ loneDrawn s l (lowBits s value) m
+      → loneDrawn s l (pixelOf (topOf (s .psize)) (value * 2 ^ (l .address % 16) % 2 ^ 16) (l .address)) m
+      ≡ loneDrawn s l (lowBits s value) m
   drawnAt-shifted l h = go (eqb (l .answer) 0 && l .some) h
     where
       drawn : ℕ → List ℕ
       drawn source = plotted (processing (s .control)) (transparency (s .control)) (topOf (s .psize)) (s .pmask) (l .address) source m
 
       go : (b : Bool) → (b ≡ true → (badPixelSize (s .psize) ≡ false) × (misaligned (s .psize) (l .address) ≡ false))
-          → cond b (drawn (pixelOf (topOf (s .psize)) (value * 2 ^ (l .address % 16) % 2 ^ 16) (l .address))) m ≡ cond b (drawn (lowBits s value)) m
+          → cond b (drawn (pixelOf (topOf (s .psize)) (value * 2 ^ (l .address % 16) % 2 ^ 16) (l .address))) m
+          ≡ cond b (drawn (lowBits s value)) m
       go false k = refl
       go true k =
           let size = k refl .0 in

@@ -105,7 +105,7 @@ pub fn draw(memory: &mut [u16], s: Settings, l: Lone, color: u16)
 fn at_place(value: u32, address: u32) -> u16
     ensures { λ r. ⌜ r ≡ value * 2 ^ (address % 16) % 2 ^ 16 ⌝ }
 {
-    ((value << (address % 16)) % 65536) as u16
+    ((value << (address % 16)) % address::HALF) as u16
 }
 
 // The pixel with masked bits 0.

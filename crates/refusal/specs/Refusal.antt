@@ -24,7 +24,8 @@ refusalTable memory size control t =
 
 -- the lowest number that applies to a call over this many words with these settings, or 0
 unfoldable pub lowest : ℕ → Settings → Tests → ℕ
-lowest words s t = refusalTable (noMemory words) (badPixelSize (s .psize)) (badControl (s .control)) t
+lowest words s t =
+    refusalTable (noMemory words) (badPixelSize (s .psize)) (badControl (s .control)) t
 
 -- 14: W isn't 0, the destination is XY, and the window is bad
 abbrev pub badWindowOf : Bool → Settings → Bool

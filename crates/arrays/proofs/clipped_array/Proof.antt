@@ -13,7 +13,8 @@ returns c =
     let xy = window .before in
     let rectangle = xy .before .before in
     rw (sym (xy .before .to-xy .ensures), xy .if1 .taken)
-    (c .clip .ensures ∙ (λ i. clipped (c .before .windowing .ensures i) (rectangle .rectangle-of .ensures i) (window .window-of .ensures i)))
+    (c .clip .ensures
+    ∙ (λ i. clipped (c .before .windowing .ensures i) (rectangle .rectangle-of .ensures i) (window .window-of .ensures i)))
 
 returns-2 : tie.Need-returns-2
 unfolding clippedArray

@@ -17,16 +17,23 @@ use Rattle.drawing.proofs.draw.Statement.{statement}
 use Rattle.drawing.proofs.draw.Tie as tie
 
 -- the drawing and the refusal are the definition's
-drawing-is : (c : tie.After-drawing-of) → c .drawing-of .result ≡ drawingFor (c .before .before .before .args .op) (c .before .before .before .args .s)
-drawing-is c = c .drawing-of .ensures ∙ ap (drawingOf (c .before .before .before .args .op) (c .before .before .before .args .s)) (c .before .clipped-array .ensures)
+drawing-is : (c : tie.After-drawing-of)
+    → let x = c .before .before .before .args in c .drawing-of .result ≡ drawingFor (x .op) (x .s)
+drawing-is c =
+    let x = c .before .before .before .args in
+    c .drawing-of .ensures ∙ ap (drawingOf (x .op) (x .s)) (c .before .clipped-array .ensures)
 
 refusal-is : (c : tie.After-refusal-of)
-    → c .refusal-of .result ≡ refusal (c .before .before .before .before .args .op) (c .before .before .before .before .args .s) (c .before .before .before .before .args .place) (length (c .before .before .before .before .args .memory .now))
+    → let d = c .before in
+    let x = d .before .before .before .args in
+    c .refusal-of .result ≡ refusal (x .op) (x .s) (x .place) (length (x .memory .now))
 unfolding refusal
 refusal-is c =
-    let x = c .before .before .before .before .args in
+    let d = c .before in
+    let x = d .before .before .before .args in
     c .refusal-of .ensures
-    ∙ ap₂ (λ (k : Clipped) (d : Drawing). refusalOf (x .op) (x .s) k d (x .place) (length (x .memory .now))) (c .before .before .clipped-array .ensures) (drawing-is (c .before))
+    ∙ ap₂ (λ (k : Clipped) (e : Drawing). refusalOf (x .op) (x .s) k e (x .place) (length (x .memory .now)))
+    (d .before .clipped-array .ensures) (drawing-is d)
 
 clipped-array-requires : tie.Need-clipped-array-requires
 clipped-array-requires c κs = search needs
@@ -44,7 +51,8 @@ returns : tie.Need-returns
 unfolding outcome drawn
 returns c =
     let r = c .before .before in
-    let x = r .before .before .before .before .args in
+    let d = r .before in
+    let x = d .before .before .before .args in
     let nz : refusal (x .op) (x .s) (x .place) (length (x .memory .now)) ≡ 0 → ⊥ = λ z. c .before .if1 .taken (refusal-is r ∙ z) in
     (rw (ne-eqb _ _ nz) (c .refused .ensures ∙ ap (λ (a : ℕ). refusedCall (x .s) (x .place) (x .v) a) (refusal-is r)), rw (ne-eqb _ _ nz))
 
@@ -61,7 +69,9 @@ place-after-requires c κs =
     let d = r .before in
     let x = d .before .before .before .args in
     let z : refusal (x .op) (x .s) (x .place) (length (x .memory .now)) ≡ 0 = sym (refusal-is r) ∙ u .before .before .if1 .left in
-    let at : x .place ≤ pixels (d .drawing-of .result) = rw (drawing-is d) (place-le (x .op) (x .s) (x .place) (length (x .memory .now)) z) in
+    let at : x .place ≤ pixels (d .drawing-of .result) =
+    rw (drawing-is d) (place-le (x .op) (x .s) (x .place) (length (x .memory .now)) z)
+    in
     omega (arith, at, u .run .ensures .0)
 
 outcome-at-requires : tie.Need-outcome-at-requires
@@ -73,17 +83,27 @@ same-length c = search needs
 returns-2 : tie.Need-returns-2
 unfolding outcome drawn
 returns-2 c =
-    let u = c .before .before .before .before .before in
+    let next = c .before in
+    let after = next .before in
+    let u = after .before .before .before in
     let r = u .before .before .before in
     let d = r .before in
     let x = d .before .before .before .args in
     let z : refusal (x .op) (x .s) (x .place) (length (x .memory .now)) ≡ 0 = sym (refusal-is r) ∙ u .before .before .if1 .left in
     let part-is : d .before .clipped-array .result ≡ clippedArray (x .op) (x .s) = d .before .clipped-array .ensures in
     let drawing : d .drawing-of .result ≡ drawingFor (x .op) (x .s) = drawing-is d in
-    let v-is : c .before .before .v-after .result ≡ vAfter (x .op) (x .s) (x .v) = c .before .before .v-after .ensures in
-    let visited-is : u .run .result ≡ visitedFrom (drawingFor (x .op) (x .s)) (x .place) (x .budget) = u .run .ensures .0 ∙ ap (λ (e : Drawing). visitedFrom e (x .place) (x .budget)) drawing in
-    let next-is : c .before .place-after .result ≡ x .place + u .run .result = c .before .place-after .ensures in
-    (rw (eq-eqb _ _ z) (c .outcome-at .ensures ∙ (λ i. outcomeAt (x .op) (x .s) (part-is i) (drawing i) (v-is i) ((next-is ∙ ap (λ (n : ℕ). x .place + n) visited-is) i) (visited-is i))), rw (eq-eqb _ _ z) (u .run .ensures .1 ∙ ap (λ (e : Drawing). visits e (x .place) (visitedFrom e (x .place) (x .budget)) (x .memory .now)) drawing))
+    let v-is : after .v-after .result ≡ vAfter (x .op) (x .s) (x .v) = after .v-after .ensures in
+    let visited-is : u .run .result ≡ visitedFrom (drawingFor (x .op) (x .s)) (x .place) (x .budget) =
+    u .run .ensures .0 ∙ ap (λ (e : Drawing). visitedFrom e (x .place) (x .budget)) drawing
+    in
+    let next-is : next .place-after .result ≡ x .place + visitedFrom (drawingFor (x .op) (x .s)) (x .place) (x .budget) =
+    next .place-after .ensures ∙ ap (λ (n : ℕ). x .place + n) visited-is
+    in (
+      rw (eq-eqb _ _ z)
+          (c .outcome-at .ensures ∙ (λ i. outcomeAt (x .op) (x .s) (part-is i) (drawing i) (v-is i) (next-is i) (visited-is i))),
+      rw (eq-eqb _ _ z)
+          (u .run .ensures .1 ∙ ap (λ (e : Drawing). visits e (x .place) (visitedFrom e (x .place) (x .budget)) (x .memory .now)) drawing),
+    )
 
 pub draw-spec : {M : Type 1} → statement M
 draw-spec =
