@@ -2,7 +2,8 @@
 ghost use mathlib.Core.Path.{_≡_};
 ghost use Prim.Native.Nat.{_-_};
 ghost use Rattle.address.specs.Address.{xyAddress, badXYPitch, badLinearPitch, misaligned};
-ghost use Rattle.address.specs.Coordinate.{xOf, yOf, negative, halfOf, registerOf};
+ghost use Rattle.address.specs.Coordinate.{xOf, yOf, negative, outsideXY};
+ghost use Rattle.address.specs.Coordinate.{halfOf, registerOf};
 use walk::Walk;
 
 // 2^16: the low half of a register is what is left of it, the high half how often it has it.
@@ -32,6 +33,13 @@ pub fn negative(c: u32) -> bool
     ensures { λ r. ⌜ r ≡ negative c ⌝ }
 {
     c < ZERO
+}
+
+// 16 of an XY start: is its X or Y negative?
+pub fn outside_xy(x: u32, y: u32) -> bool
+    ensures { λ r. ⌜ r ≡ outsideXY x y ⌝ }
+{
+    negative(x) | negative(y)
 }
 
 // The register of two coordinates.

@@ -3,7 +3,7 @@
 use mathlib.Core.Bool.{Bool, cond, not, _&&_, _||_}
 use Prim.Native.Nat.{ℕ}
 use lib.Dec.{eqb, ltb}
-use Rattle.address.specs.Coordinate.{negative}
+use Rattle.address.specs.Coordinate.{outsideXY}
 use Rattle.address.specs.Address.{badXYPitch, badLinearPitch, misaligned}
 use Rattle.extent.specs.Extent.{leavesMemory}
 use Rattle.windows.specs.declared.Clipped.{Clipped}
@@ -29,7 +29,7 @@ badPitches op s =
 -- 16: an XY start after clipping has a negative X or Y, or the linear address at which a pixel
 -- array starts isn't a multiple of PSIZE
 abbrev pub negativeStart : ℕ → Clipped → Bool
-negativeStart xy c = negative (startX xy c) || negative (startY xy c)
+negativeStart xy c = outsideXY (startX xy c) (startY xy c)
 
 abbrev pub badDest : Operation → Settings → Clipped → Drawing → Bool
 badDest op s c d = (toXY op && negativeStart (s .daddr) c) || misaligned (s .psize) (d .dest .start)

@@ -59,7 +59,7 @@ fn negative_start(xy: u32, c: Clipped) -> bool
 {
     let x = arrays::start_x(xy, c);
     let y = arrays::start_y(xy, c);
-    address::negative(x) | address::negative(y)
+    address::outside_xy(x, y)
 }
 
 fn bad_dest(op: Operation, s: Settings, c: Clipped, d: Drawing) -> bool

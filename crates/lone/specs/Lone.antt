@@ -5,7 +5,7 @@ use mathlib.Core.Bool.{Bool, true, false, not, _&&_, _||_}
 use Prim.Native.Nat.{ℕ, _*_}
 use lib.Dec.{eqb, leb}
 use Rattle.control.specs.Control.{windowing}
-use Rattle.address.specs.Coordinate.{xOf, yOf, negative}
+use Rattle.address.specs.Coordinate.{xOf, yOf, outsideXY}
 use Rattle.address.specs.Address.{xyAddress, badXYPitch, misaligned}
 use Rattle.windows.specs.Window.{windowOf, clipped, vUnder}
 use Rattle.windows.specs.declared.Rectangle.{Rectangle}
@@ -50,7 +50,7 @@ pixelAddress s xy = xyAddress (s .offset) (s .dptch) (s .psize) (xOf xy) (yOf xy
 -- an XY start has a negative X or Y, or its linear address isn't a multiple of PSIZE
 abbrev pub badLoneStart : Settings → ℕ → Bool
 badLoneStart s xy =
-    negative (xOf xy) || (negative (yOf xy) || misaligned (s .psize) (pixelAddress s xy))
+    outsideXY (xOf xy) (yOf xy) || misaligned (s .psize) (pixelAddress s xy)
 
 -- an XY pixel that is read: no window, V is kept
 unfoldable pub xySource : ℕ → Settings → ℕ → Bool → Lone

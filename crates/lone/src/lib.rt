@@ -117,8 +117,8 @@ fn bad_start(s: Settings, xy: u32, address: u32) -> bool
     requires { ⌜ address ≡ pixelAddress s xy ⌝ }
     ensures { λ r. ⌜ r ≡ badLoneStart s xy ⌝ }
 {
-    address::negative(address::x_of(xy) as u32)
-        | (address::negative(address::y_of(xy) as u32) | address::misaligned(s.psize, address))
+    let outside = address::outside_xy(address::x_of(xy) as u32, address::y_of(xy) as u32);
+    outside | address::misaligned(s.psize, address)
 }
 
 // The 1 by 1 rectangle that one pixel is for the window.

@@ -14,7 +14,7 @@ use Rattle.control.specs.Control.{transparency, processing}
 use Rattle.pixel.specs.Pixel.{badPixelSize, topOf, pixelOf, plotted}
 use Rattle.pixel.proofs.SizeLaws.{size-le, aligned-fits, topOf-ones}
 use Rattle.pixel.proofs.PixelLaws.{pixelOf-mod}
-use Rattle.address.specs.Coordinate.{xOf, yOf, negative}
+use Rattle.address.specs.Coordinate.{xOf, yOf, outsideXY}
 use Rattle.address.specs.Address.{misaligned}
 use Rattle.settings.specs.declared.Settings.{Settings}
 use Rattle.refusal.proofs.RefusalLaws as table
@@ -59,7 +59,7 @@ module _ (words : ℕ) (s : Settings) where
       let accepted : l .answer ≡ 0 = eqb-true _ 0 (and-eq-true-iff _ (l .some) .0 e .0) in
       let shown : l .some ≡ true = and-eq-true-iff (eqb (l .answer) 0) _ .0 e .1 in
       let p = passes _ _ (l .some) (badLoneStart s xy) (pixelAddress s xy) accepted shown in
-      (p .0, or-false-right (negative (yOf xy)) _ (or-false-right (negative (xOf xy)) _ (p .1)))
+      (p .0, or-false-right (outsideXY (xOf xy) (yOf xy)) _ (p .1))
 
 -- ---- what is drawn from the shifted bits is what is drawn from the register
 module _ (s : Settings) (value : ℕ) (m : List ℕ) where

@@ -5,14 +5,13 @@ use Rattle.array_refusal.proofs.negative_start.Tie as tie
 
 returns : tie.Need-returns
 returns c =
-    let y = c .before .before in
-    rw (c .negative2 .ensures, c .before .negative .ensures, y .start-y .ensures, y .before .start-x .ensures)
+    let y = c .before in
+    rw (c .outside-xy .ensures, y .start-y .ensures, y .before .start-x .ensures)
 
 pub negative-start-spec : {M : Type 1} → statement M
 negative-start-spec =
     tie.close
     (tie.spec
-    (λ c κs. search needs)
     (λ c κs. search needs)
     (λ c κs. search needs)
     (λ c κs. search needs)

@@ -5,16 +5,10 @@ use Rattle.lone.proofs.bad_start.Tie as tie
 
 returns : tie.Need-returns
 returns c =
-    let y = c .before .before in
-    let x = y .before .before in
-    rw (
-      c .misaligned .ensures,
-      c .before .negative2 .ensures,
-      y .y-of .ensures,
-      y .before .negative .ensures,
-      x .x-of .ensures,
-      x .before .pre,
-    )
+    let outside = c .before in
+    let y = outside .before in
+    let x = y .before in
+    rw (c .misaligned .ensures, outside .outside-xy .ensures, y .y-of .ensures, x .x-of .ensures, x .before .pre)
 
 pub bad-start-spec : {M : Type 1} → statement M
 bad-start-spec =
@@ -22,7 +16,6 @@ bad-start-spec =
     (tie.spec
     (λ c κs. search needs)
     (λ c. search needs)
-    (λ c κs. search needs)
     (λ c κs. search needs)
     (λ c. search needs)
     (λ c κs. search needs)
