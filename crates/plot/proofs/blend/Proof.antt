@@ -50,14 +50,11 @@ returns c =
     let t = c .before in
     defined (t .before) true (ap₂ _&&_ (t .if1 .taken) (eq-eqb _ _ (c .if2 .taken)))
 
--- a result fits its word
-fits : (p : tie.After-planes-at) (x : ℕ) → (p .planes-at .result < 2 ^ 16) × (bitAnd x (p .planes-at .result) < 2 ^ 16)
-fits p x = (omega (arith, planes-le p), omega (arith, planes-le p, cut-le p x))
-
 replace-requires : tie.Need-replace-requires
 replace-requires c κs =
     let q = c .before .before in
-    fits (q .before .before .before) (q .process .result)
+    let p = q .before .before .before in
+    (omega (arith, planes-le p), omega (arith, planes-le p, cut-le p (q .process .result)))
 
 -- with T, and another result
 returns-2 : tie.Need-returns-2
@@ -69,7 +66,8 @@ returns-2 c =
 replace-requires-2 : tie.Need-replace-requires-2
 replace-requires-2 c κs =
     let q = c .before in
-    fits (q .before .before .before) (q .process .result)
+    let p = q .before .before .before in
+    (omega (arith, planes-le p), omega (arith, planes-le p, cut-le p (q .process .result)))
 
 -- without T
 returns-3 : tie.Need-returns-3
