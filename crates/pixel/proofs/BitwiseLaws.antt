@@ -1,33 +1,14 @@
--- Bitwise operations by bits: of two numbers, of a mask of ones, of a complement. No contract cites this file. Assumes nothing.
+-- Bitwise operations: a bit masked by 1, masked twice, complements of a pixel. No contract cites this file. Assumes nothing.
 use mathlib.Core.Path.{_≡_, refl, ap, subst, _∙_}
-use mathlib.Core.Logic.{_⊎_, inl, inr}
-use Prim.Native.Nat.{ℕ, zero, suc, _+_, _-_, _*_, _/_, _%_, _^_, _≤_, _<_, min}
+use Prim.Native.Nat.{ℕ, _+_, _-_, _*_, _/_, _%_, _^_, _≤_, _<_, min}
 use native.Mathlib.Nat.{mod-eq-of-lt}
 use native.Mathlib.Omega.{arith}
 use lib.Arith.{bin-ind}
 use lib.Pow.{high, low, ones-split, ones-lt}
-use lib.Bits.{bitAnd, bitOr, bitXor, and-step, and-shr, or-shr, xor-shr, and-mod, or-mod, xor-mod, and-mask, xor-add-and}
+use lib.Bits.{bitAnd, bitXor, and-step, and-shr, and-mask, xor-add-and}
 use Rattle.memory.specs.Bits.{bitOf}
+use Rattle.memory.proofs.BitLaws.{bit-xor}
 use Rattle.pixel.specs.PixelOp.{complement}
-
-pub bit-cases : {x : ℕ} → x < 2 → (x ≡ 0) ⊎ (x ≡ 1)
-bit-cases {x = zero} h = inl refl
-bit-cases {x = suc zero} h = inr refl
-bit-cases {x = suc (suc y)} h = absurd (omega arith)
-
--- ---- bit by bit
-module _ (x y j : ℕ) where
-  pub bit-and : bitOf (bitAnd x y) j ≡ bitAnd (bitOf x j) (bitOf y j)
-  unfolding bitOf
-  bit-and = ap (λ (z : ℕ). z % 2) (and-shr x y j) ∙ and-mod (x / 2 ^ j) (y / 2 ^ j) 1
-
-  pub bit-or : bitOf (bitOr x y) j ≡ bitOr (bitOf x j) (bitOf y j)
-  unfolding bitOf
-  bit-or = ap (λ (z : ℕ). z % 2) (or-shr x y j) ∙ or-mod (x / 2 ^ j) (y / 2 ^ j) 1
-
-  bit-xor : bitOf (bitXor x y) j ≡ bitXor (bitOf x j) (bitOf y j)
-  unfolding bitOf
-  bit-xor = ap (λ (z : ℕ). z % 2) (xor-shr x y j) ∙ xor-mod (x / 2 ^ j) (y / 2 ^ j) 1
 
 pub and-one : {x : ℕ} → x < 2 → bitAnd x 1 ≡ x
 and-one {x} h = and-mask x 1 ∙ mod-eq-of-lt h

@@ -9,10 +9,9 @@ use native.Mathlib.Omega.{arith}
 use lib.ListN.{getD}
 use Rattle.memory.specs.Bits.{Memory, bitOf, bitAt, within}
 use Rattle.memory.proofs.Within.{Place, inside, place, within-inside}
-use Rattle.memory.proofs.BitLaws.{bit-lt}
+use Rattle.memory.proofs.BitLaws.{bit-lt, bit-cases}
 use Rattle.pixel.specs.Pixel.{pixelOf, plotted}
 use Rattle.pixel.specs.Footprint.{Touched}
-use Rattle.pixel.proofs.BitwiseLaws.{bit-cases}
 use Rattle.pixel.proofs.PixelLaws.{pixelOf-lt, bit-pixelOf-place, bit-pixelOf-bitAt, drawn, bitAt-plotted}
 use Rattle.pixel.proofs.MaskLaws.{bit-masked, Alike, pixelAfter-alike}
 

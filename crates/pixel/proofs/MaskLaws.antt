@@ -7,10 +7,10 @@ use Prim.Native.Nat.{ℕ, _-_, _^_, _<_}
 use lib.Bits.{bitAnd, bitOr, bitXor, and-zero-r, or-zero-r}
 use lib.Dec.{eqb}
 use Rattle.memory.specs.Bits.{bitOf}
-use Rattle.memory.proofs.BitLaws.{bit-lt, bits-ext}
+use Rattle.memory.proofs.BitLaws.{bit-lt, bits-ext, bit-cases, bit-and, bit-or}
 use Rattle.pixel.specs.PixelOp.{complement, processed}
 use Rattle.pixel.specs.Pixel.{unmasked, result, pixelAfter}
-use Rattle.pixel.proofs.BitwiseLaws.{bit-cases, bit-and, bit-or, and-one, bit-complement}
+use Rattle.pixel.proofs.BitwiseLaws.{and-one, bit-complement}
 use Rattle.pixel.proofs.PixelLaws.{unmasked-lt}
 
 -- ---- bit j of a number with masked bits 0

@@ -11,10 +11,10 @@ use lib.Bits.{xor-shr, xor-mod, or-disjoint, or-lt, or-zero-r}
 use lib.Dec.{eqb}
 use lib.Pow.{pow-pos, pow-mono, split, high, low, ones-split, ones-lt, lt-of-le-ones, suc-ones}
 use Rattle.memory.specs.Bits.{bitOf}
-use Rattle.memory.proofs.BitLaws.{bit-lt, bits-ext}
+use Rattle.memory.proofs.BitLaws.{bit-lt, bits-ext, bit-cases, bit-and, bit-or}
 use Rattle.pixel.specs.PixelOp.{complement, processed}
 use Rattle.pixel.specs.Pixel.{topOf, pixelOf, unmasked, result, pixelAfter, withPixel, wordAfter}
-use Rattle.pixel.proofs.BitwiseLaws.{bit-cases, bit-and, bit-or, and-one, bit-complement}
+use Rattle.pixel.proofs.BitwiseLaws.{and-one, bit-complement}
 use Rattle.pixel.proofs.PixelLaws.{pixelOf-le, pixelOf-lt, complement-pixelOf-le}
 use Rattle.plot.specs.Word.{replaced}
 

@@ -7,9 +7,8 @@ use Prim.Native.Nat.{ℕ, _/_, _<_}
 use lib.Dec.{eqb}
 use lib.ListN.{getD}
 use Rattle.memory.specs.Bits.{bitAt}
-use Rattle.memory.proofs.BitLaws.{bit-lt}
+use Rattle.memory.proofs.BitLaws.{bit-lt, bit-cases}
 use Rattle.pixel.specs.Pixel.{topOf, pixelOf}
-use Rattle.pixel.proofs.BitwiseLaws.{bit-cases}
 use Rattle.plot.specs.declared.Source.{Source}
 use Rattle.plot.specs.declared.Source.the-variants.{Color, Pixels, Bits}
 use Rattle.plot.specs.declared.Drawing.{Drawing}

@@ -1,14 +1,15 @@
 -- The proofs of specs/Memory.antt, a line each: the laws of the crates below. Assumes nothing.
-use mathlib.Core.Path.{ap, sym, _∙_}
+use mathlib.Core.Path.{ap, ap₂, sym, _∙_}
 use mathlib.Core.List.{List}
-use Rattle.memory.specs.Changed.{changedBits}
+use Prim.Native.Nat.{max}
+use Rattle.memory.specs.Changed.{changedBits, differingByWord}
 use Rattle.memory.proofs.MemoryLaws as memory
-use Rattle.memory.proofs.ChangedLaws.{changedBits-same}
+use Rattle.memory.proofs.ChangedLaws.{changedBits-same, changedBits-by-word}
 use Rattle.field.proofs.RoundLaws as field
 use Rattle.timing.proofs.CaseLaws as timing
 use Rattle.image.proofs.SeedLaws as image
 use Rattle.theorems.proofs.ChangedLaws.{same-of-changedBits}
-use Rattle.theorems.specs.Memory.{BitsDecide, ChangedDecides, ReadBack, WriteFrame, WriteBack, PastEnd, OneCase, SeedsDiffer}
+use Rattle.theorems.specs.Memory.{BitsDecide, ChangedDecides, ChangedByWord, ReadBack, WriteFrame, WriteBack, PastEnd, OneCase, SeedsDiffer}
 use Rattle.theorems.specs.Memory.{OfMemory}
 
 pub bits-decide : BitsDecide
@@ -19,6 +20,10 @@ changed-decides n m m′ g g′ = (
   same-of-changedBits g g′,
   λ e. ap (λ (l : List _). changedBits m l) (sym e) ∙ changedBits-same m,
 )
+
+pub changed-by-word : ChangedByWord
+changed-by-word n n′ m m′ g g′ =
+    ap (differingByWord m m′) (sym (ap₂ max (g .size) (g′ .size))) ∙ sym (changedBits-by-word g g′)
 
 pub read-back : ReadBack
 read-back = field.read-back
@@ -43,6 +48,7 @@ of-memory =
     record {
       bits-decide = bits-decide;
       changed-decides = changed-decides;
+      changed-by-word = changed-by-word;
       read-back = read-back;
       write-frame = write-frame;
       write-back = write-back;

@@ -10,10 +10,10 @@ use lib.Dec.{eqb}
 use lib.ListN.{getD}
 use Rattle.memory.specs.Bits.{Memory, bitOf, bitAt}
 use Rattle.memory.proofs.Within.{within-inside}
-use Rattle.memory.proofs.BitLaws.{bit-lt}
+use Rattle.memory.proofs.BitLaws.{bit-lt, bit-cases, bit-and}
 use Rattle.pixel.specs.PixelOp.{complement, processed}
 use Rattle.pixel.specs.Pixel.{pixelOf, unmasked, result, pixelAfter, plotted}
-use Rattle.pixel.proofs.BitwiseLaws.{bit-cases, bit-and, and-one, bit-complement}
+use Rattle.pixel.proofs.BitwiseLaws.{and-one, bit-complement}
 use Rattle.pixel.proofs.PixelLaws.{bit-pixelOf-place, bit-pixelOf-bitAt, bitAt-plotted}
 use Rattle.pixel.proofs.MaskLaws.{bit-masked, bit-open}
 

@@ -6,10 +6,10 @@ use mathlib.Core.Path.{_≡_}
 use mathlib.Core.Bool.{Bool, true, false}
 use mathlib.Core.List.{List}
 use mathlib.Core.Logic.{_⊎_}
-use Prim.Native.Nat.{ℕ, _+_, _*_, _%_, _^_, _<_, _≤_}
+use Prim.Native.Nat.{ℕ, _+_, _*_, _%_, _^_, _<_, _≤_, max}
 use lib.ListN.{length}
 use Rattle.memory.specs.Bits.{mostWords, Memory, bitAt}
-use Rattle.memory.specs.Changed.{changedBits}
+use Rattle.memory.specs.Changed.{changedBits, differingByWord}
 use Rattle.field_refusal.specs.Size.{badSize, meant}
 use Rattle.field.specs.Field.{fieldRefusal, fieldRead, fieldWritten}
 use Rattle.timing.specs.Cycles.{isCase, cases, caseOf, holding}
@@ -27,6 +27,14 @@ abbrev pub ChangedDecides : Type 0
 ChangedDecides =
     (n : ℕ) (m m′ : List ℕ) → Memory n m → Memory n m′
     → (changedBits m m′ ≡ 0 → m ≡ m′) × (m ≡ m′ → changedBits m m′ ≡ 0)
+
+-- Request Three: the count of changed bits, compared a word at a time by the ones of each
+-- difference, is the count bit by bit, for any two memories. Where one has fewer words, a word past
+-- its end is 0.
+abbrev pub ChangedByWord : Type 0
+ChangedByWord =
+    (n n′ : ℕ) (m m′ : List ℕ) → Memory n m → Memory n′ m′
+    → differingByWord m m′ (max n n′) ≡ changedBits m m′
 
 -- ---- fields
 
@@ -76,6 +84,7 @@ SeedsDiffer = (x y n : ℕ) → x < 2 ^ 64 → y < 2 ^ 64 → 4 ≤ n → image 
 pub record OfMemory : Type 0 where
   pub bits-decide : BitsDecide
   pub changed-decides : ChangedDecides
+  pub changed-by-word : ChangedByWord
   pub read-back : ReadBack
   pub write-frame : WriteFrame
   pub write-back : WriteBack
