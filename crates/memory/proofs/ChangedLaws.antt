@@ -17,16 +17,16 @@ use Rattle.memory.specs.Changed.{differs, differing, changedBits, wordDi
 use Rattle.memory.proofs.BitLaws.{bit-lt, bit-cases, bit-xor}
 use Rattle.memory.proofs.NumberLaws.{Bits, number-ext, number-own}
 use Rattle.memory.proofs.OnesLaws.{bitsSum, ones-number}
-use Rattle.memory.proofs.MemoryLaws.{bitAt-lt, bitAt-word}
+use Rattle.memory.proofs.MemoryLaws.{bitAt-word}
 
-pub differs-le : (b c : ℕ) → differs b c ≤ 1
+differs-le : (b c : ℕ) → differs b c ≤ 1
 differs-le b c = go (eqb b c)
   where
     go : (t : Bool) → _≤_ (cond t 0 1) 1
     go true = omega arith
     go false = omega arith
 
-pub differing-le : (m m′ : List ℕ) (n : ℕ) → differing m m′ n ≤ n
+differing-le : (m m′ : List ℕ) (n : ℕ) → differing m m′ n ≤ n
 unfolding differing
 differing-le m m′ zero = omega arith
 differing-le m m′ (suc n) = omega (arith, differing-le m m′ n, differs-le (bitAt m n) (bitAt m′ n))
@@ -90,7 +90,7 @@ module _ {n n′ : ℕ} {m m′ : List ℕ} (g : Memory n m) (g′ : Memory n′
         ∙ ap (λ (k : ℕ). differing m m′ (wordBits * i) + k)
         (sym (ones-number differsAt differsAt-lt (wordBits * i) wordBits) ∙ ap ones xor-number)
 
-  pub differing-by-word : (i : ℕ) → differing m m′ (wordBits * i) ≡ differingByWord m m′ i
+  differing-by-word : (i : ℕ) → differing m m′ (wordBits * i) ≡ differingByWord m m′ i
   unfolding differing differingByWord
   differing-by-word zero = refl
   differing-by-word (suc i) = differing-word i ∙ ap (λ (k : ℕ). k + wordDifference (getD m i 0) (getD m′ i 0)) (differing-by-word i)

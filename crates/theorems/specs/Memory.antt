@@ -7,9 +7,9 @@ use mathlib.Core.Bool.{Bool, true, false}
 use mathlib.Core.List.{List}
 use mathlib.Core.Logic.{_⊎_}
 use Prim.Native.Nat.{ℕ, _+_, _*_, _%_, _^_, _<_, _≤_, max}
-use lib.ListN.{length}
+use lib.ListN.{length, getD}
 use Rattle.memory.specs.Bits.{mostWords, Memory, bitAt}
-use Rattle.memory.specs.Changed.{changedBits, differingByWord}
+use Rattle.memory.specs.Changed.{differing, changedBits, wordDifference, differingByWord}
 use Rattle.field_refusal.specs.Size.{badSize, meant}
 use Rattle.field.specs.Field.{fieldRefusal, fieldRead, fieldWritten}
 use Rattle.timing.specs.Cycles.{isCase, cases, caseOf, holding}
@@ -27,6 +27,14 @@ abbrev pub ChangedDecides : Type 0
 ChangedDecides =
     (n : ℕ) (m m′ : List ℕ) → Memory n m → Memory n m′
     → (changedBits m m′ ≡ 0 → m ≡ m′) × (m ≡ m′ → changedBits m m′ ≡ 0)
+
+-- Request Three, for one word: the differing bits below bit 16 x (i + 1) are those below 16 x i and
+-- the ones of the exclusive or of the two words i.
+abbrev pub DifferingWord : Type 0
+DifferingWord =
+    (n n′ : ℕ) (m m′ : List ℕ) → Memory n m → Memory n′ m′ → (i : ℕ)
+    → let ones = wordDifference (getD m i 0) (getD m′ i 0) in
+    differing m m′ (16 * (i + 1)) ≡ differing m m′ (16 * i) + ones
 
 -- Request Three: the count of changed bits, compared a word at a time by the ones of each
 -- difference, is the count bit by bit, for any two memories. Where one has fewer words, a word past
@@ -84,6 +92,7 @@ SeedsDiffer = (x y n : ℕ) → x < 2 ^ 64 → y < 2 ^ 64 → 4 ≤ n → image 
 pub record OfMemory : Type 0 where
   pub bits-decide : BitsDecide
   pub changed-decides : ChangedDecides
+  pub differing-word : DifferingWord
   pub changed-by-word : ChangedByWord
   pub read-back : ReadBack
   pub write-frame : WriteFrame

@@ -1,10 +1,10 @@
 -- `memory::changed_bits` meets its contract: the count so far is that of the words reached. Assumes nothing.
-use mathlib.Core.Path.{_≡_, refl, sym, ap, ap₂, _∙_}
-use Prim.Native.Nat.{_+_, _-_, _*_, _≤_, min, max}
+use mathlib.Core.Path.{_≡_, ap, _∙_}
+use Prim.Native.Nat.{_+_, _-_, _≤_, min}
 use native.Mathlib.Omega.{arith}
 use borrow.Author.Needs.{needs}
 use lib.ListN.{length}
-use Rattle.memory.specs.Bits.{wordBits, mostWords}
+use Rattle.memory.specs.Bits.{mostWords}
 use Rattle.memory.specs.Changed.{differingByWord}
 use Rattle.memory.proofs.MemoryLaws.{memory-lent}
 use Rattle.memory.proofs.ChangedLaws.{by-word-le}
@@ -27,7 +27,8 @@ changed-piece-requires c κs = ((omega arith, omega arith), (omega arith, omega 
 
 -- one piece more
 counted : (c : tie.After-changed-piece Inv-loop μ-loop) → let turn = c .before .before .before in
-    let x = turn .before .before .before .before .args in
+    let called = turn .before .before .before in
+    let x = called .before .args in
     turn .loop .bits + c .changed-piece .result
     ≡ differingByWord (x .before .now) (x .after .now) (turn .loop .i + c .before .lesser2 .result)
 counted c =

@@ -5,7 +5,6 @@ use native.Mathlib.Nat.{add-zero, add-assoc}
 use native.Mathlib.Numerals.{add-one}
 use native.Mathlib.Omega.{arith}
 use borrow.Author.Needs.{needs}
-use lib.ListN.{length}
 use Rattle.memory.specs.Bits.{wordBits}
 use Rattle.memory.specs.Changed.{differingByWord}
 use Rattle.memory.proofs.changed_piece.Statement.{statement}
@@ -29,7 +28,8 @@ add-bits c = omega (arith, c .difference .ensures .1)
 loop-again : tie.Need-loop-again Inv-loop μ-loop
 unfolding differingByWord
 loop-again c =
-    let turn = c .before .before .before .before in
+    let read = c .before .before in
+    let turn = read .before .before in
     let x = turn .before .before .before .args in
     let m = x .before .now in
     let m′ = x .after .now in
@@ -42,7 +42,8 @@ loop-again c =
 
 returns : tie.Need-returns Inv-loop μ-loop
 returns c =
-    let x = c .before .before .before .before .args in
+    let called = c .before .before in
+    let x = called .before .before .args in
     let e : c .before .loop .i ≡ x .to = omega arith in
     c .before .loop .inv .0 ∙ ap (differingByWord (x .before .now) (x .after .now)) e
 

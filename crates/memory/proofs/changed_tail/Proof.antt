@@ -1,11 +1,11 @@
 -- `memory::changed_tail` meets its contract: the count so far is that of the words reached. Assumes nothing.
 use mathlib.Core.Path.{_≡_, sym, ap, ap₂, _∙_}
-use Prim.Native.Nat.{_+_, _-_, _*_, _≤_, max}
+use Prim.Native.Nat.{_+_, _-_, _≤_, max}
 use native.Mathlib.Numerals.{add-one}
 use native.Mathlib.Omega.{arith}
 use borrow.Author.Needs.{needs}
 use lib.ListN.{length}
-use Rattle.memory.specs.Bits.{wordBits, mostWords}
+use Rattle.memory.specs.Bits.{mostWords}
 use Rattle.memory.specs.Changed.{wordDifference, differingByWord}
 use Rattle.memory.proofs.MemoryLaws.{memory-lent}
 use Rattle.memory.proofs.ChangedLaws.{changedBits-by-word, by-word-le}
@@ -23,20 +23,24 @@ abbrev μ-loop : tie.MeasureT-loop
 μ-loop before after from known end bits₀ i₀ bits i = end - i
 
 -- one word more
-counted : (c : tie.After-difference Inv-loop μ-loop) → let turn = c .before .before .before .before in
-    let x = turn .before .before .before .before .args in
+counted : (c : tie.After-difference Inv-loop μ-loop) → let read = c .before .before in
+    let turn = read .before .before in
+    let called = turn .before .before .before in
+    let x = called .before .args in
     turn .loop .bits + c .difference .result ≡ differingByWord (x .before .now) (x .after .now) (turn .loop .i + 1)
 unfolding differingByWord
 counted c =
     let read = c .before .before in
     let turn = read .before .before in
-    let x = turn .before .before .before .before .args in
+    let called = turn .before .before .before in
+    let x = called .before .args in
     let one = c .difference .ensures .0 ∙ ap₂ wordDifference (read .word-at .ensures) (c .before .word-at2 .ensures) in
     ap₂ _+_ (turn .loop .inv .0) one ∙ ap (differingByWord (x .before .now) (x .after .now)) (sym (add-one (turn .loop .i)))
 
 add-bits : tie.Need-add-bits Inv-loop μ-loop
 add-bits c =
-    let turn = c .before .before .before .before in
+    let read = c .before .before in
+    let turn = read .before .before in
     let called = turn .before .before .before in
     let m = memory-lent (called .before .args .before .now) (λ i. called .shared-slice-known .given i .fits) in
     let m′ = memory-lent (called .before .args .after .now) (λ i. turn .before .before .shared-slice-known2 .given i .fits) in
