@@ -509,7 +509,7 @@ static void compare_odd_fetch(void)
 
 static void random_fetch_call(void)
 {
-    if (one_in(4096))
+    if (one_in(1024))
         start_walk();
     if (one_in(8))
         compare_odd_fetch();
@@ -542,28 +542,6 @@ static void compare_image(uint16_t *mine, uint16_t *theirs, uint64_t words, uint
     stop();
 }
 
-static void compare_changed(uint16_t *a, uint64_t words_a, uint16_t *b, uint64_t words_b,
-                            size_t length)
-{
-    struct memory ma = { a, words_a }, mb = { b, words_b };
-    uint64_t out[2] = { GUARD, GUARD };
-    calls++;
-    uint32_t answer = bh_changed(a, words_a, b, words_b, out, length);
-    struct changed_answer r = changed_bits(ma, mb);
-    uint32_t wanted = length < 1 ? BH_SHORT : (uint32_t)r.answer;
-    uint64_t count = length < 1 ? GUARD : r.count;
-    if (answer == wanted && out[0] == count && out[1] == GUARD)
-        return;
-    print_case("changed");
-    printf("  words %llu and %llu, out length %lu\n", (unsigned long long)words_a,
-           (unsigned long long)words_b, (unsigned long)length);
-    print_words("first words of the one", a, words_a < SMALL ? words_a : SMALL);
-    print_words("first words of the other", b, words_b < SMALL ? words_b : SMALL);
-    printf("  library answers %lu, %llu bits; model %lu, %llu\n", (unsigned long)answer,
-           (unsigned long long)out[0], (unsigned long)wanted, (unsigned long long)count);
-    stop();
-}
-
 static void random_image_call(void)
 {
     struct small a = random_small();
@@ -578,6 +556,8 @@ static void random_image_call(void)
         b.word[random_below(SMALL)] ^= (uint16_t)(1u << random_below(16));
     }
     compare_changed(a.word, a.words, b.word, b.words, random_length(1));
+    if (one_in(1024))
+        random_long_changed();
 }
 
 /* ---- Edges ---- */
@@ -673,6 +653,7 @@ static void compare_others(uint64_t count)
     prepare_large();
     field_edges();
     large_edges();
+    changed_edges();
     fetch_edges();
     pixel_edges();
     for (uint64_t i = 0; i < count; i++) {

@@ -70,6 +70,17 @@ enum place {
 bool settings_are_bad(const uint32_t number[NUMBERS], size_t count);
 struct settings settings_of(const uint32_t number[NUMBERS]);
 
+/* ---- Changed bits (compare_changed.c) ---- */
+
+void compare_changed(const uint16_t *a, uint64_t words_a, const uint16_t *b, uint64_t words_b,
+                     size_t length);
+
+/* Lengths around what is counted at once, every difference of a word, and one bit anywhere. */
+void changed_edges(void);
+
+/* Two memories of up to 5,000 words. */
+void random_long_changed(void);
+
 /* ---- Single pixels (compare_pixels.c) ---- */
 
 void pixel_edges(void);
