@@ -14,10 +14,10 @@
    cell has. */
 #define PASSES 3
 
-#define GROUPS 5
+#define GROUPS 6
 
 static const struct group *const groups[GROUPS] = { &drawings, &narrow_arrays, &slices, &fields,
-                                                    &plans };
+                                                    &changed,  &plans };
 
 static void print_lowest(const double *lowest)
 {

@@ -28,6 +28,9 @@ uint32_t plain_plan_read(const uint8_t *text, size_t length, struct plain_plan *
 /* The values of a point by their names' numbers. The answer is 0 or 24. */
 uint32_t plain_experiment(const struct plain_plan *plan, uint64_t point, uint64_t *values);
 
+/* The bits in which two memories of one length differ. */
+uint64_t plain_changed(const uint16_t *before, const uint16_t *after, size_t words);
+
 /* Puts the listing's lines of `count` points from `first` on, each over the image of its SEED.
    There must be room for 80 bytes each, and the image and the memory have the plan's number of
    words. The answer is 0 or 24. */

@@ -27,8 +27,8 @@ static void fill_image(uint16_t *image, size_t words, uint64_t x)
         image[i] = (uint16_t)x;
 }
 
-/* The bits in which two memories differ, four words at a time and the last ones singly. */
-static uint64_t changed_bits(const uint16_t *before, const uint16_t *after, size_t words)
+/* Four words at a time and the last ones singly. */
+uint64_t plain_changed(const uint16_t *before, const uint16_t *after, size_t words)
 {
     uint64_t bits = 0;
     size_t i = 0;
@@ -88,7 +88,7 @@ uint32_t plain_lines(const struct plain_plan *plan, uint64_t first, uint64_t cou
         seed = values[SEED];
         memcpy(memory, image, words * sizeof *memory);
         struct plain_outcome outcome = plain_call(memory, words, plan->draw, settings);
-        at = put_line(at, first + i, &outcome, changed_bits(image, memory, words));
+        at = put_line(at, first + i, &outcome, plain_changed(image, memory, words));
     }
     *written = (size_t)(at - out);
     return 0;
