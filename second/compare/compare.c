@@ -509,7 +509,7 @@ static void compare_odd_fetch(void)
 
 static void random_fetch_call(void)
 {
-    if (one_in(1024))
+    if (one_in(4096))
         start_walk();
     if (one_in(8))
         compare_odd_fetch();
