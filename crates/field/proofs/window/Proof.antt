@@ -1,9 +1,10 @@
 -- `field::window` meets its contract. Assumes nothing.
-use mathlib.Core.Path.{_≡_, refl, sym, ap₂, _∙_}
+use mathlib.Core.Path.{_≡_, sym, ap₂, _∙_}
 use Prim.Native.Nat.{ℕ, _+_, _*_}
 use native.Mathlib.Omega.{arith}
 use lib.ListN.{length}
 use Rattle.memory.specs.Bits.{Memory}
+use Rattle.memory.proofs.MemoryLaws.{memory-lent}
 use Rattle.field.proofs.WindowLaws.{window-one, window-two, window-three}
 use borrow.Author.Needs.{needs}
 use Rattle.field.proofs.window.Statement.{statement}
@@ -11,7 +12,7 @@ use Rattle.field.proofs.window.Tie as tie
 
 -- what is lent is a memory
 lent : (c : tie.After-shared-slice-known) → Memory (length (c .before .args .memory .now)) (c .before .args .memory .now)
-lent c = record { size = refl; words = λ i. c .shared-slice-known .given i .fits }
+lent c = memory-lent _ (λ i. c .shared-slice-known .given i .fits)
 
 mul-wide : tie.Need-mul-wide
 mul-wide c = search needs

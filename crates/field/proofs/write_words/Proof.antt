@@ -1,9 +1,10 @@
 -- `field::write_words` meets its contract. Assumes nothing.
-use mathlib.Core.Path.{_≡_, refl, ap, _∙_}
+use mathlib.Core.Path.{ap, _∙_}
 use Prim.Native.Nat.{ℕ, _*_}
 use native.Mathlib.Omega.{arith}
 use lib.ListN.{length}
 use Rattle.memory.specs.Bits.{Memory, withBits, withField}
+use Rattle.memory.proofs.MemoryLaws.{memory-lent}
 use Rattle.field.proofs.WindowLaws.{window-lt, field-written}
 use borrow.Author.Needs.{needs}
 use Rattle.field.proofs.write_words.Statement.{statement}
@@ -11,7 +12,7 @@ use Rattle.field.proofs.write_words.Tie as tie
 
 -- what is lent is a memory
 lent : (c : tie.After-slice-known) → Memory (length (c .before .args .memory .now)) (c .before .args .memory .now)
-lent c = record { size = refl; words = λ i. c .slice-known .given i .fits }
+lent c = memory-lent _ (λ i. c .slice-known .given i .fits)
 
 window-requires : tie.Need-window-requires
 window-requires c κs = search needs
