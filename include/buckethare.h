@@ -166,6 +166,12 @@ uint32_t bh_draw(uint16_t *memory, size_t words, uint32_t operation, const uint3
                  size_t settings_length, uint64_t place, uint32_t v, uint64_t budget, uint64_t *out,
                  size_t out_length);
 
+/* A dry run: what bh_draw would answer and put into out over a memory of so many words. What they
+   hold doesn't matter, so no memory is passed, and nothing is drawn. */
+uint32_t bh_outcome(size_t words, uint32_t operation, const uint32_t *settings,
+                    size_t settings_length, uint64_t place, uint32_t v, uint64_t budget,
+                    uint64_t *out, size_t out_length);
+
 /* ---- Instruction cache ---- */
 
 /* A cache state is 12 numbers: the start addresses of segments 0 to 3 (bits 9-31 of the bit

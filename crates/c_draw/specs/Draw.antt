@@ -1,4 +1,4 @@
--- FILL and PIXBLT for C: bad arguments, the seven results, and the promise of the call. Assumes
+-- FILL and PIXBLT for C: bad arguments, the seven results, and the promises of both calls. Assumes
 -- nothing.
 use mathlib.Core.Path.{_≡_}
 use mathlib.Core.Bool.{Bool, cond, _||_}
@@ -38,17 +38,23 @@ drawResults o =
     ∷ o .dydx
     ∷ []
 
--- the promise of `draw`: what it answers, and what it leaves in the memory and the output array
-pub record DrawCall (memory : List ℕ) (operation : ℕ) (settings : List ℕ) (place v budget : ℕ)
-    (out : List ℕ) (answer : ℕ) (memory′ out′ : List ℕ) : Type 0 where
+-- the promise of `outcome`: what it answers, and what it leaves in the output array
+pub record OutcomeCall (words operation : ℕ) (settings : List ℕ) (place v budget : ℕ)
+    (out : List ℕ) (answer : ℕ) (out′ : List ℕ) : Type 0 where
   pub answers :
       let op = operationOf operation in
-      let call = outcome op (settingsOf settings) place (isSet v) budget (length memory) in
+      let call = outcome op (settingsOf settings) place (isSet v) budget words in
       answer ≡ answered (badDraw operation settings out) (call .answer)
   pub out-is :
       let op = operationOf operation in
-      let call = outcome op (settingsOf settings) place (isSet v) budget (length memory) in
+      let call = outcome op (settingsOf settings) place (isSet v) budget words in
       out′ ≡ storedOut (badDraw operation settings out) out (drawResults call)
+
+-- the promise of `draw`: that of its outcome over the memory's words, and what it leaves in the
+-- memory
+pub record DrawCall (memory : List ℕ) (operation : ℕ) (settings : List ℕ) (place v budget : ℕ)
+    (out : List ℕ) (answer : ℕ) (memory′ out′ : List ℕ) : Type 0 where
+  pub outcome-is : OutcomeCall (length memory) operation settings place v budget out answer out′
   pub memory-is :
       let after = drawn (operationOf operation) (settingsOf settings) place budget memory in
       memory′ ≡ cond (badDraw operation settings out) memory after

@@ -1,7 +1,7 @@
-// FILL and PIXBLT for C: `drawing::draw` on numbers and lent arrays.
+// FILL and PIXBLT for C: `drawing::draw` and `drawing::outcome_for` on numbers and lent arrays.
 ghost use mathlib.Core.Path.{_≡_};
 ghost use lib.Seq.{sets};
-ghost use Rattle.c_draw.specs.Draw.{drawResults, DrawCall};
+ghost use Rattle.c_draw.specs.Draw.{badDraw, drawResults, OutcomeCall, DrawCall};
 use c_arrays::BAD_CALL;
 use c_arrays::flag_number;
 use drawing::Outcome;
@@ -23,9 +23,7 @@ pub fn draw(
     ensures { λ r. ⌜ DrawCall (now (memory .entry)) operation (now (settings .entry)) place v budget
         (now (out .entry)) r (now (memory .exit)) (now (out .exit)) ⌝ }
 {
-    if (out.len() < DRAW_RESULTS)
-        | ((names::DRAWING_COUNT as u32 <= operation) | c_arrays::bad_settings(settings))
-    {
+    if bad_draw(operation, settings, out) {
         return BAD_CALL;
     }
     let op = operation::operation_of(wide(operation));
@@ -33,6 +31,37 @@ pub fn draw(
     let r = drawing::draw(memory, op, s, place, v != 0, budget);
     hand_out(out, r);
     r.answer
+}
+
+// What a FILL or PIXBLT call over so many words of memory would answer; out as of `draw`.
+pub fn outcome(
+    words: usize,
+    operation: u32,
+    settings: &[u32],
+    place: u64,
+    v: u32,
+    budget: u64,
+    out: &mut [u64],
+) -> u32
+    ensures { λ r. ⌜ OutcomeCall words operation (now (settings .entry)) place v budget
+        (now (out .entry)) r (now (out .exit)) ⌝ }
+{
+    if bad_draw(operation, settings, out) {
+        return BAD_CALL;
+    }
+    let op = operation::operation_of(wide(operation));
+    let s = c_arrays::settings_in(settings);
+    let r = drawing::outcome_for(op, s, place, v != 0, budget, words);
+    hand_out(out, r);
+    r.answer
+}
+
+// Are the arguments bad, or is there no room for the results?
+fn bad_draw(operation: u32, settings: &[u32], out: &[u64]) -> bool
+    ensures { λ r. ⌜ r ≡ badDraw operation (now (settings .entry)) (now (out .entry)) ⌝ }
+{
+    (out.len() < DRAW_RESULTS)
+        | ((names::DRAWING_COUNT as u32 <= operation) | c_arrays::bad_settings(settings))
 }
 
 // Stores the results at the array's start.

@@ -1,5 +1,5 @@
 // Drawings: FILL and PIXBLT.
-ghost use Rattle.c_draw.specs.Draw.{DrawCall};
+ghost use Rattle.c_draw.specs.Draw.{OutcomeCall, DrawCall};
 
 // A FILL or PIXBLT call; out has the new place, the pixels visited by this call, V, the request,
 // SADDR, DADDR and DYDX.
@@ -17,4 +17,21 @@ pub extern "C" fn bh_draw(
         (now (out .entry)) r (now (memory .exit)) (now (out .exit)) ⌝ }
 {
     c_draw::draw(memory, operation, settings, place, v, budget, out)
+}
+
+// What a FILL or PIXBLT call over so many words of memory would answer; out as of `bh_draw`.
+#[no_mangle]
+pub extern "C" fn bh_outcome(
+    words: usize,
+    operation: u32,
+    settings: &[u32],
+    place: u64,
+    v: u32,
+    budget: u64,
+    out: &mut [u64],
+) -> u32
+    ensures { λ r. ⌜ OutcomeCall words operation (now (settings .entry)) place v budget
+        (now (out .entry)) r (now (out .exit)) ⌝ }
+{
+    c_draw::outcome(words, operation, settings, place, v, budget, out)
 }

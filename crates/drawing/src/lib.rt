@@ -1,11 +1,14 @@
 // FILL and PIXBLT: a call takes an operation, settings, a place, V and a budget over a lent memory.
 ghost use mathlib.Core.Path.{_≡_};
-ghost use mathlib.Core.Bool.{cond, _&&_};
+ghost use mathlib.Core.Bool.{false, cond, _&&_};
 ghost use lib.Dec.{eqb};
 ghost use lib.ListN.{length};
 ghost use Prim.Native.Nat.{_+_, _≤_};
 ghost use Rattle.plot.specs.Drawing.{pixels};
+ghost use Rattle.engine.specs.Engine.{visits, visitedFrom};
 ghost use Rattle.operation.specs.Operation.{sourceOf, copies};
+ghost use Rattle.arrays.specs.Array.{drawingFor};
+ghost use Rattle.array_refusal.specs.Refusal.{refusal};
 ghost use Rattle.drawing.specs.Draw.{refusedCall, commonOf, doneSome, rowAfter};
 ghost use Rattle.drawing.specs.Draw.{outcomeAt, outcome, drawn};
 use operation::Operation;
@@ -142,8 +145,81 @@ fn outcome_at(
     }
 }
 
-// A FILL or PIXBLT call: visits the lesser of the budget and the pixels that are left, from the
-// place on.
+// The pixels from a place on are visited, at most a budget of them; in a dry run they are counted
+// only.
+fn visit(memory: &mut [u16], d: Drawing, place: u64, budget: u64, dry: bool) -> u64
+    ensures { λ r. let m = now (memory .entry) in let n = visitedFrom d place budget in
+        ⌜ (r ≡ n) × (now (memory .exit) ≡ cond dry m (visits d place n m)) ⌝ }
+{
+    if dry {
+        return engine::visited_from(d, place, budget);
+    }
+    engine::run(memory, d, place, budget)
+}
+
+// A call over a memory of so many words, or a dry run of one, which leaves the lent words alone.
+// (One function for both: with two callers the parts of it would be called one by one, a fifth of
+// the time of a short call.)
+fn call(
+    memory: &mut [u16],
+    words: usize,
+    op: Operation,
+    s: Settings,
+    place: u64,
+    v: bool,
+    budget: u64,
+    dry: bool,
+) -> Outcome
+    requires { ⌜ (dry ≡ false → words ≡ length (now memory)) ⌝ }
+    ensures { λ r. let m = now (memory .entry) in
+        ⌜ (r ≡ outcome op s place v budget words)
+        × (now (memory .exit) ≡ cond dry m (drawn op s place budget m)) ⌝ }
+{
+    let c = arrays::clipped_array(op, s);
+    let d = arrays::drawing_of(op, s, c);
+    let answer = array_refusal::refusal_of(op, s, c, d, place, words);
+    if answer != 0 {
+        return refused(s, place, v, answer);
+    }
+    let visited = visit(memory, d, place, budget, dry);
+    let after = arrays::v_after(op, s, v);
+    let next = place_after(d, place, visited);
+    outcome_at(op, s, c, d, after, next, visited)
+}
+
+// The drawing of an operation with its settings.
+pub fn drawing_for(op: Operation, s: Settings) -> Drawing
+    ensures { λ r. ⌜ r ≡ drawingFor op s ⌝ }
+{
+    let c = arrays::clipped_array(op, s);
+    arrays::drawing_of(op, s, c)
+}
+
+// What a call over so many words of memory hands back, whatever they hold: a dry run of `draw`.
+pub fn outcome_for(
+    op: Operation,
+    s: Settings,
+    place: u64,
+    v: bool,
+    budget: u64,
+    words: usize,
+) -> Outcome
+    ensures { λ r. ⌜ r ≡ outcome op s place v budget words ⌝ }
+{
+    let mut none = [0u16; 1];
+    call(&mut none, words, op, s, place, v, budget, true)
+}
+
+// The refusal of a call over so many words of memory: its number, or 0.
+pub fn refusal_for(op: Operation, s: Settings, place: u64, words: usize) -> u32
+    ensures { λ r. ⌜ r ≡ refusal op s place words ⌝ }
+{
+    let o = outcome_for(op, s, place, false, 0, words);
+    if 1 < o.answer { o.answer } else { 0 }
+}
+
+// A FILL or PIXBLT call: unless it is refused, the engine visits the lesser of the budget and the
+// pixels that are left, from the place on.
 pub fn draw(
     memory: &mut [u16],
     op: Operation,
@@ -156,14 +232,6 @@ pub fn draw(
         ⌜ (r ≡ outcome op s place v budget (length m))
         × (now (memory .exit) ≡ drawn op s place budget m) ⌝ }
 {
-    let c = arrays::clipped_array(op, s);
-    let d = arrays::drawing_of(op, s, c);
-    let answer = array_refusal::refusal_of(op, s, c, d, place, memory.len());
-    if answer != 0 {
-        return refused(s, place, v, answer);
-    }
-    let visited = engine::run(memory, d, place, budget);
-    let after = arrays::v_after(op, s, v);
-    let next = place_after(d, place, visited);
-    outcome_at(op, s, c, d, after, next, visited)
+    let words = memory.len();
+    call(memory, words, op, s, place, v, budget, false)
 }

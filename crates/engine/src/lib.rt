@@ -12,13 +12,20 @@ pub fn run(memory: &mut [u16], d: Drawing, place: u64, budget: u64) -> u64
     ensures { λ r. let n = visitedFrom d place budget in
         ⌜ (r ≡ n) × (now (memory .exit) ≡ visits d place n (now (memory .entry))) ⌝ }
 {
-    let left = left_from(plot::pixels(d), place);
-    let count = least(budget, left);
+    let count = visited_from(d, place, budget);
     if count == 0 {
         return 0;
     }
     visit_range(memory, d, place, count);
     count
+}
+
+// How many pixels are visited from a place on: the lesser of the budget and those that are left.
+pub fn visited_from(d: Drawing, place: u64, budget: u64) -> u64
+    ensures { λ r. ⌜ r ≡ visitedFrom d place budget ⌝ }
+{
+    let left = left_from(plot::pixels(d), place);
+    least(budget, left)
 }
 
 // The pixels of n that are left from a place on.

@@ -18,7 +18,7 @@ use Rattle.engine.proofs.VisitsLaws.{memory-visits}
 use Rattle.interleave.proofs.VisitLaws.{visits, upto, visits-zero}
 use Rattle.slices.specs.Calls.{Job, Held, heldOf, handedBack, memoryLeft, lastAccepted}
 use Rattle.slices.specs.Demand3.{walkOf, pixelsOf, Accepted}
-use Rattle.slices.proofs.OutcomeLaws.{at, outcome-accepted, outcome-refused, drawn-accepted, drawn-refused}
+use Rattle.drawing.proofs.OutcomeLaws.{at, outcome-accepted, outcome-refused, drawn-accepted, drawn-refused}
 
 pub cond-eq : {A : Type 0} (n k : ℕ) (a b : A) → n ≡ k → cond (eqb n k) a b ≡ a
 cond-eq n k a b e = ap (λ (t : Bool). cond t a b) (eq-eqb n k e)

@@ -19,8 +19,8 @@ use Rattle.array_refusal.specs.Refusal.{refusal}
 use Rattle.drawing.specs.Draw.{refusedCall, outcomeAt, visitedBy, outcome, drawn}
 use Rattle.array_refusal.proofs.RefusalLaws.{place-le, refusal-moved}
 use Rattle.slices.specs.Joined.{together, total, handedBy, leftBy}
-use Rattle.slices.proofs.OutcomeLaws.{at, vAfter-twice, outcome-accepted, outcome-refused, drawn-accepted}
-use Rattle.slices.proofs.OutcomeLaws.{drawn-refused}
+use Rattle.drawing.proofs.OutcomeLaws.{at, outcome-accepted, outcome-refused, drawn-accepted, drawn-refused}
+use Rattle.slices.proofs.OutcomeLaws.{vAfter-twice}
 
 module _ (op : Operation) (s : Settings) where
   module _ (k : ℕ) (v : Bool) (b c : ℕ) (m : List ℕ) where

@@ -13,7 +13,7 @@ use Rattle.plot.specs.Drawing.{pixels}
 use Rattle.arrays.specs.Array.{drawingFor}
 use Rattle.drawing.specs.Draw.{outcomeAt, visitedBy, outcome, drawn}
 use Rattle.array_refusal.proofs.RefusalLaws.{refusal-number}
-use Rattle.slices.proofs.OutcomeLaws.{outcome-refused}
+use Rattle.drawing.proofs.OutcomeLaws.{outcome-refused}
 use Rattle.plan.proofs.PlanLaws.{tableAfter-refused}
 use Rattle.theorems.specs.Refused.{DrawRefused, DrawAccepted, DrawNumbers, PixtRefused, DravRefused, WriteRefused, ImageRefused}
 use Rattle.theorems.specs.Refused.{FetchRefused, PlanRefused, OfRefusals}

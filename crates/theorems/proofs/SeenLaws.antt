@@ -22,7 +22,7 @@ use Rattle.operation.specs.Operation.{toXY}
 use Rattle.arrays.specs.Array.{rectangleOf, clippedArray, vAfter}
 use Rattle.array_refusal.specs.Refusal.{refusal}
 use Rattle.drawing.specs.Draw.{outcomeAt, outcome}
-use Rattle.slices.proofs.OutcomeLaws.{outcome-accepted}
+use Rattle.drawing.proofs.OutcomeLaws.{outcome-accepted}
 use Rattle.theorems.specs.Windows.{SomeInside, SomeOutside, ByPixels}
 
 module _ (r : Rectangle) (win : Window) where

@@ -5,8 +5,8 @@ use Rattle.c_draw.proofs.draw.Tie as tie
 
 returns : tie.Need-returns
 returns c =
-    let e = rw (c .before .bad-settings .ensures) at (c .if1 .taken) in
-    record { answers = rw e; out-is = rw e; memory-is = rw e }
+    let e = rw (c .before .bad-draw .ensures) at (c .if1 .taken) in
+    record { outcome-is = record { answers = rw e; out-is = rw e }; memory-is = rw e }
 
 returns-2 : tie.Need-returns-2
 returns-2 c =
@@ -19,16 +19,19 @@ returns-2 c =
     let s = t .settings-in .ensures in
     let p = o .operation-of .ensures in
     let w = o .before .wide .ensures in
-    let g = rw (i .before .bad-settings .ensures) at (i .if1 .left) in
+    let g = rw (i .before .bad-draw .ensures) at (i .if1 .left) in
     let e = d .draw .ensures in
-    record { answers = rw (e .0, s, p, w, g); out-is = rw (h .hand-out .ensures, e .0, s, p, w, g); memory-is = rw (e .1, s, p, w, g) }
+    record {
+      outcome-is = record { answers = rw (e .0, s, p, w, g); out-is = rw (h .hand-out .ensures, e .0, s, p, w, g) };
+      memory-is = rw (e .1, s, p, w, g);
+    }
 
 pub draw-spec : {M : Type 1} → statement M
 draw-spec =
     tie.close
     (tie.spec
-    (λ c. search needs)
     (λ c κs. search needs)
+    (λ c. search needs)
     returns
     (λ c κs. search needs)
     (λ c κs. search needs)
