@@ -9,9 +9,10 @@ use lib.Dec.{leb}
 use lib.ListN.{length, take, set, length-append}
 use Rattle.io.specs.Digits.{Fewest}
 use Rattle.io.specs.Digits.{digits as io·digits}
+use Rattle.ascii.specs.Ascii.{digit0}
 use Rattle.listing.specs.Listing.{decimal, lineLength, put, putIf, indexAfter}
 use Rattle.listing.proofs.DigitsLaws.{decimal-of-fewest, length-of-fewest}
-use Rattle.listing.proofs.ListingLaws.{mostNumber, lineLength-le, length-put, put-put, put-one, take-put}
+use Rattle.listing.proofs.ListingLaws.{digits-small, mostNumber, lineLength-le, length-put, put-put, put-one, take-put}
 
 -- Tests of what fits
 
@@ -83,6 +84,20 @@ module _ (at n end k : ℕ) (out : List ℕ) (small : n < 2 ^ 64) (fewest : Fewe
 
   pub number-not-placed : leb (at + (k + 1)) (length out) ≡ false → Placed at (decimal n ++ (end ∷ [])) out at out
   number-not-placed h = not-placed at (decimal n ++ (end ∷ [])) out (rw (length-ended (decimal n) end, length-of-fewest k n small fewest) h)
+
+-- a number of one digit, and a byte after it
+digit-is : (n : ℕ) → n < 10 → decimal n ≡ (digit0 + n) ∷ []
+digit-is n h = digits-small 19 n h
+
+module _ (at n end : ℕ) (out : List ℕ) (small : n < 10) where
+  pub digit-placed : leb (at + 2) (length out) ≡ true
+      → Placed at (decimal n ++ (end ∷ [])) out (at + 1 + 1) (set (set out at (digit0 + n)) (at + 1) end)
+  digit-placed e =
+      let h : at + 2 ≤ length out = leb-true _ _ e in
+      rw (digit-is n small, put-one at (digit0 + n) out (omega arith)) (ended-placed at end ((digit0 + n) ∷ []) out h)
+
+  pub digit-not-placed : leb (at + 2) (length out) ≡ false → Placed at (decimal n ++ (end ∷ [])) out at out
+  digit-not-placed e = rw (digit-is n small) (not-placed at ((digit0 + n) ∷ end ∷ []) out e)
 
 -- bytes put at the start of a text: how many there are, and the text's part with them
 pub first-bytes : (bs t : List ℕ) → length bs ≤ length t → (k : ℕ) (o : List ℕ) → k ≡ 0 + length bs → o ≡ put 0 bs t

@@ -3,7 +3,7 @@
 // is written.
 ghost use mathlib.Core.Path.{_≡_};
 ghost use mathlib.Core.List.{[], _∷_, _++_};
-ghost use Prim.Native.Nat.{_+_, _≤_};
+ghost use Prim.Native.Nat.{_+_, _≤_, _<_};
 ghost use lib.Dec.{leb};
 ghost use lib.ListN.{length};
 ghost use Rattle.listing.specs.Listing.{decimal, put, putIf, indexAfter};
@@ -16,12 +16,38 @@ pub fn number(out: &mut [u8], at: usize, n: u64, end: u8) -> usize
     ensures { λ r. ⌜ r ≡ indexAfter at (decimal n ++ (end ∷ [])) (length (now (out .entry))) ⌝ }
     ensures { λ r. ⌜ now (out .exit) ≡ putIf at (decimal n ++ (end ∷ [])) (now (out .entry)) ⌝ }
 {
+    if n < 10 {
+        return digit(out, at, n, end);
+    }
+    digits(out, at, n, end)
+}
+
+// The digits of a number, and the byte `end`.
+fn digits(out: &mut [u8], at: usize, n: u64, end: u8) -> usize
+    ensures { λ r. ⌜ r ≡ indexAfter at (decimal n ++ (end ∷ [])) (length (now (out .entry))) ⌝ }
+    ensures { λ r. ⌜ now (out .exit) ≡ putIf at (decimal n ++ (end ∷ [])) (now (out .entry)) ⌝ }
+{
     let mut text = [0u8; DIGITS];
     let k = io::decimal(n, &mut text);
     if has_room(out.len(), at, k + 1) {
         copy(out, at, &text[..k]);
         out[at + k] = end;
         return at + k + 1;
+    }
+    at
+}
+
+// A number of one digit, and the byte `end`: most numbers of a listing are one.
+fn digit(out: &mut [u8], at: usize, n: u64, end: u8) -> usize
+    requires { ⌜ n < 10 ⌝ }
+    ensures { λ r. ⌜ r ≡ indexAfter at (decimal n ++ (end ∷ [])) (length (now (out .entry))) ⌝ }
+    ensures { λ r. ⌜ now (out .exit) ≡ putIf at (decimal n ++ (end ∷ [])) (now (out .entry)) ⌝ }
+{
+    if has_room(out.len(), at, 2) {
+        let next = at + 1;
+        out[at] = ascii::DIGIT_0 + n as u8;
+        out[next] = end;
+        return next + 1;
     }
     at
 }

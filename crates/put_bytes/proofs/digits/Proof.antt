@@ -1,4 +1,4 @@
--- `put_bytes::number` meets its contract: the kit's digits and the byte after them are put where they fit. Assumes nothing.
+-- `put_bytes::digits` meets its contract: the kit's digits and the byte after them are put where they fit. Assumes nothing.
 use mathlib.Core.Path.{sym, _∙_}
 use Prim.Native.Nat.{_+_, _≤_}
 use native.Mathlib.Omega.{arith}
@@ -8,8 +8,8 @@ use lib.ListN.{length}
 use denote.Ref.{now}
 use Rattle.listing.proofs.DigitsLaws.{fewest-le-most}
 use Rattle.listing.proofs.PlacedLaws.{number-placed, number-not-placed}
-use Rattle.put_bytes.proofs.number.Statement.{statement}
-use Rattle.put_bytes.proofs.number.Tie as tie
+use Rattle.put_bytes.proofs.digits.Statement.{statement}
+use Rattle.put_bytes.proofs.digits.Tie as tie
 
 abbrev Start : tie.After-decimal → tie.Start
 Start c = c .before .before .before
@@ -69,8 +69,8 @@ returns-2 c =
     number-not-placed _ _ _ (a .decimal .result) _ (Start a .fits .n .fits) (a .decimal .ensures .1 .0)
     (sym (c .before .has-room .ensures) ∙ c .if1 .left)
 
-pub number-spec : {M : Type 1} → statement M
-number-spec =
+pub digits-spec : {M : Type 1} → statement M
+digits-spec =
     tie.close
     (tie.spec
     decimal-requires
