@@ -2,7 +2,7 @@
 -- memory that it leaves. Assumes nothing.
 use mathlib.Core.Bool.{Bool, false, cond, not, _&&_}
 use mathlib.Core.List.{List}
-use Prim.Native.Nat.{ℕ, _+_, _*_, _^_}
+use Prim.Native.Nat.{ℕ, _+_, _-_, _*_, _^_}
 use lib.Dec.{eqb}
 use lib.ListN.{length}
 use Rattle.control.specs.Control.{windowing}
@@ -75,6 +75,10 @@ outcomeAt op s c d v place visited =
 -- how many pixels a call visits: the lesser of the budget and n less the place
 abbrev pub visitedBy : Operation → Settings → ℕ → ℕ → ℕ
 visitedBy op s place budget = visitedFrom (drawingFor op s) place budget
+
+-- a whole drawing is one call with a budget that no drawing's pixels exceed
+abbrev pub unlimited : ℕ
+unlimited = 2 ^ 64 - 1
 
 -- what a call hands back
 unfoldable pub outcome : Operation → Settings → ℕ → Bool → ℕ → ℕ → Outcome

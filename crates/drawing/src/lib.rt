@@ -17,6 +17,9 @@ use settings::Settings;
 use windows::Clipped;
 use windows::Rectangle;
 
+// A budget that no drawing's pixels exceed.
+pub const UNLIMITED: u64 = u64::MAX;
+
 // What a call hands back: 0 done, 1 stopped, else the refusal's number; the new place; the pixels
 // visited by this call; V and the request; the registers; the settings as given.
 pub struct Outcome {

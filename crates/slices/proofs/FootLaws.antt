@@ -37,7 +37,7 @@ and-false true b e h = h
 and-false false b e h = absurd (false≢true e)
 
 -- a pitch that is not refused
-multiple-of-badPitch : (xy : Bool) (pitch : ℕ) → badPitch xy pitch ≡ false → pitch % 16 ≡ 0
+pub multiple-of-badPitch : (xy : Bool) (pitch : ℕ) → badPitch xy pitch ≡ false → pitch % 16 ≡ 0
 multiple-of-badPitch true pitch e = multiple-of-badXYPitch pitch e
 multiple-of-badPitch false pitch e = multiple-of-badLinearPitch pitch e
 
