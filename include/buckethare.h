@@ -172,6 +172,17 @@ uint32_t bh_outcome(size_t words, uint32_t operation, const uint32_t *settings,
                     size_t settings_length, uint64_t place, uint32_t v, uint64_t budget,
                     uint64_t *out, size_t out_length);
 
+/* The time of a FILL is four numbers, in machine states: setup, transfer, adjustment, and the whole
+   time, which is setup and transfer less the adjustment. */
+#define BH_FILL_RESULTS 4
+
+/* The time of a whole drawing, from place 0 to its end, over a memory of so many words, by 000
+   section 13.3 and its tables 13-5 to 13-7; CD (CONTROL bit 15) adds 3 states to the setup. All
+   four are 0 for a PIXBLT, for a drawing that visits no pixel, and where the drawing is refused.
+   Answers 0, 9 (as bh_draw, or out has less than 4 elements), 10, 11, 12, 13, 14, 16 or 17. */
+uint32_t bh_fill_states(size_t words, uint32_t operation, const uint32_t *settings,
+                        size_t settings_length, uint64_t *out, size_t out_length);
+
 /* ---- Instruction cache ---- */
 
 /* A cache state is 12 numbers: the start addresses of segments 0 to 3 (bits 9-31 of the bit

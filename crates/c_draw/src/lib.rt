@@ -81,7 +81,7 @@ fn hand_out(out: &mut [u64], r: Outcome)
 }
 
 // `c_arrays::store_numbers` for numbers of 64 bits.
-fn store_wide(out: &mut [u64], numbers: &[u64])
+pub fn store_wide(out: &mut [u64], numbers: &[u64])
     ensures { λ _. ⌜ now (out .exit) ≡ sets (now (out .entry)) 0 (now (numbers .entry)) ⌝ }
 {
     let mut i: usize = 0;

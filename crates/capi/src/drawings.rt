@@ -1,5 +1,6 @@
-// Drawings: FILL and PIXBLT.
+// Drawings: FILL and PIXBLT, dry runs, and the time of a FILL.
 ghost use Rattle.c_draw.specs.Draw.{OutcomeCall, DrawCall};
+ghost use Rattle.c_fill.specs.Fill.{FillStatesCall};
 
 // A FILL or PIXBLT call; out has the new place, the pixels visited by this call, V, the request,
 // SADDR, DADDR and DYDX.
@@ -34,4 +35,19 @@ pub extern "C" fn bh_outcome(
         (now (out .entry)) r (now (out .exit)) ⌝ }
 {
     c_draw::outcome(words, operation, settings, place, v, budget, out)
+}
+
+// The time of a whole drawing over so many words of memory; out has setup, transfer, adjustment and
+// states.
+#[no_mangle]
+pub extern "C" fn bh_fill_states(
+    words: usize,
+    operation: u32,
+    settings: &[u32],
+    out: &mut [u64],
+) -> u32
+    ensures { λ r. ⌜ FillStatesCall words operation (now (settings .entry)) (now (out .entry)) r
+        (now (out .exit)) ⌝ }
+{
+    c_fill::states(words, operation, settings, out)
 }

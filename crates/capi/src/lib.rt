@@ -10,6 +10,7 @@ mod pixels;
 mod plans;
 
 pub use drawings::bh_draw;
+pub use drawings::bh_fill_states;
 pub use drawings::bh_outcome;
 pub use fields::bh_field_cycles;
 pub use fields::bh_field_read;
