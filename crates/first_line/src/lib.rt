@@ -12,7 +12,7 @@ pub fn put_heading(out: &mut [u8], at: usize) -> usize
     ensures { λ r. ⌜ r ≡ indexAfter at heading (length (now (out .entry))) ⌝ }
     ensures { λ r. ⌜ now (out .exit) ≡ putIf at heading (now (out .entry)) ⌝ }
 {
-    put_bytes::bytes(out, at, b"point\tanswer\tvisited\tV\tchanged\n")
+    put_bytes::bytes(out, at, b"point\tanswer\tvisited\tV\tchanged\tstates\n")
 }
 
 // The heading of experiments, which has NAMES bytes: `point` and the fourteen names.

@@ -78,18 +78,19 @@ unfolding lineLength
 lineLength-le [] = omega arith
 lineLength-le (n ∷ ns) = omega (arith, length-decimal-le n, lineLength-le ns)
 
--- five numbers, the second below 2 ^ 32 and the fourth below 10, take at most 76 bytes
-pub length-five : (a b c d e : ℕ) → b < 2 ^ 32 → d < 10 → length (numbersLine (a ∷ b ∷ c ∷ d ∷ e ∷ [])) ≤ 76
+-- six numbers, the second below 100, the fourth below 10 and the last below 10 ^ 11, take at most 80 bytes
+pub length-six : (a b c d e f : ℕ) → b < 100 → d < 10 → f < 10 ^ 11 → length (numbersLine (a ∷ b ∷ c ∷ d ∷ e ∷ f ∷ [])) ≤ 80
 unfolding lineLength
-length-five a b c d e hb hd =
+length-six a b c d e f hb hd hf =
     omega (
       arith,
-      length-numbersLine (a ∷ b ∷ c ∷ d ∷ e ∷ []) (omega arith),
+      length-numbersLine (a ∷ b ∷ c ∷ d ∷ e ∷ f ∷ []) (omega arith),
       length-decimal-le a,
-      length-digits-of-lt mostDigits 9 b (omega arith),
+      length-digits-of-lt mostDigits 1 b (omega arith),
       length-decimal-le c,
       length-digits-of-lt mostDigits 0 d (omega arith),
       length-decimal-le e,
+      length-digits-of-lt mostDigits 10 f (omega arith),
     )
 
 pub length-refusedLine-le : (number line : ℕ) → length (refusedLine number line) ≤ 50

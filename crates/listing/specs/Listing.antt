@@ -44,7 +44,7 @@ indexAfter at bytes size = cond (leb (at + length bytes) size) (at + length byte
 
 -- the heading
 abbrev pub heading : List ℕ
-heading = ascii "point\tanswer\tvisited\tV\tchanged\n"
+heading = ascii "point\tanswer\tvisited\tV\tchanged\tstates\n"
 
 -- a refused plan writes only `refused`, number, line
 abbrev pub refusedLine : ℕ → ℕ → List ℕ

@@ -16,6 +16,8 @@ use Rattle.arrays.specs.Array.{clippedArray, vAfter, destStart, srcStart, drawi
 use Rattle.refusal.specs.Refusal.{lowest}
 use Rattle.array_refusal.specs.Refusal.{refusalOf, refusal}
 use Rattle.drawing.specs.Draw.{outcomeAt, outcome, drawn}
+use Rattle.fill_tables.specs.Time.{alignmentOf, timeOf}
+use Rattle.fill_timing.specs.FillTiming.{adjustOf, fillOf, fillTime}
 use Rattle.points.specs.Axes.{axisLength, valueAt, count}
 use Rattle.points.specs.Points.{indices, assigned, experiment}
 use Rattle.listing.specs.Listing.{digits, numbersLine}
@@ -26,6 +28,7 @@ use Rattle.run.specs.Example.{Example}
 pub example : Example
 unfolding bitOf bitAt differing changedBits stepped pixelOperations processed pixelOf result pixelAfter withPixel wordAfter plotted
     xyAddress badXYPitch common clipped addressAt addressOf reaches leavesMemory settingsOf sourceAt drawnAt visits clippedArray vAfter
-    vUnder destStart srcStart drawingOf lowest refusalOf refusal outcomeAt outcome drawn axisLength valueAt count indices assigned
+    vUnder destStart srcStart drawingOf lowest refusalOf refusal outcomeAt outcome drawn
+    alignmentOf timeOf adjustOf fillOf fillTime axisLength valueAt count indices assigned
     experiment digits numbersLine ranOver pointLine pointLines
 example = refl

@@ -1,6 +1,6 @@
 -- Laws of `specs/Run.antt`. No contract cites this file. Assumes nothing.
 use mathlib.Core.Path.{_≡_, refl}
-use mathlib.Core.Bool.{Bool, true, false, cond}
+use mathlib.Core.Bool.{false}
 use mathlib.Core.List.{List, append-nil}
 use mathlib.Core.Logic.{_≢_}
 use Prim.Native.Nat.{ℕ, _+_, _/_, _%_, _^_, _<_, _≤_}
@@ -10,23 +10,19 @@ use lib.ListN.{length, drop-of-length-le}
 use Rattle.memory.specs.Bits.{noMemory}
 use Rattle.memory.specs.Changed.{changedBits, counted}
 use Rattle.memory.proofs.ChangedLaws.{changedBits-same}
-use Rattle.control.specs.Control.{windowing}
-use Rattle.windows.specs.Window.{windowOf}
-use Rattle.windows.specs.Window.{unclipped}
-use Rattle.windows.specs.declared.Clipped.{Clipped}
-use Rattle.windows.proofs.WindowLaws.{Fits, clipped-fits}
 use Rattle.settings.specs.declared.Settings.{Settings}
 use Rattle.plot.specs.Drawing.{pixels}
 use Rattle.plot.proofs.DrawingLaws.{pixels-lt}
 use Rattle.operation.specs.declared.Operation.{Operation}
-use Rattle.operation.specs.Operation.{toXY}
-use Rattle.arrays.specs.Array.{rectangleOf, clippedArray, drawingOf, drawingFor}
+use Rattle.arrays.specs.Array.{drawingOf, drawingFor}
+use Rattle.arrays.proofs.ArrayLaws.{cols-rows-le}
 use Rattle.array_refusal.specs.Refusal.{refusal}
-use Rattle.drawing.specs.Draw.{outcomeAt, visitedBy, outcome, drawn}
+use Rattle.drawing.specs.Draw.{unlimited, outcomeAt, visitedBy, outcome, drawn}
+use Rattle.fill_timing.proofs.FillTimingLaws.{fillTime-none}
 use Rattle.points.specs.Points.{experiment}
 use Rattle.points.specs.Table.{axesIn, pointsIn, outAfter}
 use Rattle.points.proofs.AnswerLaws.{answer-done}
-use Rattle.run.specs.Run.{unlimited, ranOver}
+use Rattle.run.specs.Run.{ranOver}
 
 -- the experiment of a point in a list of fourteen
 pub outAfter-fourteen : (k n : ℕ) (t out : List ℕ) → length out ≡ 14 → n < pointsIn k t → outAfter k t n out ≡ experiment (axesIn k t) n
@@ -40,19 +36,9 @@ counted-bits m m′ e l = rw (l, e)
 
 -- a refused point gives its number, and zeros
 pub ranOver-refused : (op : Operation) (s : Settings) (m : List ℕ) → refusal op s 0 (length m) ≢ 0
-    → ranOver op s m ≡ record { answer = refusal op s 0 (length m); visited = 0; v = false; changed = 0 }
+    → ranOver op s m ≡ record { answer = refusal op s 0 (length m); visited = 0; v = false; changed = 0; states = 0 }
 unfolding ranOver outcome drawn
-ranOver-refused op s m h = rw (ne-eqb _ _ h, changedBits-same m)
-
--- an array's columns and rows are at most DX and DY
-cols-rows-le : (op : Operation) (s : Settings) → (clippedArray op s .cols ≤ s .dydx % 2 ^ 16) × (clippedArray op s .rows ≤ s .dydx / 2 ^ 16)
-unfolding clippedArray
-cols-rows-le op s = go (toXY op) _ (clipped-fits (windowing (s .control)) (rectangleOf s) (windowOf (s .wstart) (s .wend)))
-  where
-    go : (t : Bool) (c : Clipped) → Fits (rectangleOf s) c
-        → let d = cond t c (unclipped (rectangleOf s)) in (d .cols ≤ s .dydx % 2 ^ 16) × (d .rows ≤ s .dydx / 2 ^ 16)
-    go true c f = (f .cols, f .rows)
-    go false c f = (omega arith, omega arith)
+ranOver-refused op s m h = rw (ne-eqb _ _ h, changedBits-same m, fillTime-none op s)
 
 pixels-lt-pow : (op : Operation) (s : Settings) → s .dydx < 2 ^ 32 → pixels (drawingFor op s) < 2 ^ 32
 unfolding drawingOf

@@ -12,7 +12,7 @@ use Rattle.image.specs.Image.{image}
 use Rattle.image.proofs.ImageLaws.{length-image}
 use Rattle.settings.specs.declared.Settings.{Settings}
 use Rattle.operation.specs.declared.Operation.{Operation}
-use Rattle.drawing.specs.Draw.{drawn}
+use Rattle.drawing.specs.Draw.{unlimited, drawn}
 use Rattle.points.specs.Axes.{Axis}
 use Rattle.points.specs.Points.{experiment}
 use Rattle.listing.specs.Listing.{put, putIf, indexAfter}
@@ -21,7 +21,7 @@ use Rattle.running.specs.declared.Progress.{Progress}
 use Rattle.run.specs.declared.Ran.{Ran}
 use Rattle.settings.specs.Settings.{settingsOf}
 use Rattle.operation.specs.Operation.{operationOf}
-use Rattle.run.specs.Run.{seedOf, unlimited, ranOver, lineOf, imageFor, memoryFor, pointLine}
+use Rattle.run.specs.Run.{seedOf, ranOver, lineOf, imageFor, memoryFor, pointLine}
 use Rattle.run.specs.Lines.{pointLines, longest, afterLast}
 use Rattle.running.specs.Progress.{HoldsImage, progressed}
 use Rattle.run.proofs.LinesLaws.{length-pointLine, length-pointLines, pointLines-next}

@@ -6,12 +6,11 @@ ghost use lib.ListN.{length};
 ghost use Rattle.memory.specs.Bits.{noMemory};
 ghost use Rattle.image.specs.Image.{image};
 ghost use Rattle.settings.specs.Settings.{settingsOf};
-ghost use Rattle.drawing.specs.Draw.{drawn};
+ghost use Rattle.drawing.specs.Draw.{unlimited, drawn};
 ghost use Rattle.points.specs.Points.{experiment};
 ghost use Rattle.points.specs.Table.{axesIn, pointsIn};
 ghost use Rattle.listing.specs.Listing.{put};
-ghost use Rattle.run.specs.Run.{seedOf, unlimited, ranOver, bit, lineOf, imageFor, memoryFor};
-ghost use Rattle.run.specs.Run.{pointLine};
+ghost use Rattle.run.specs.Run.{seedOf, ranOver, bit, lineOf, imageFor, memoryFor, pointLine};
 ghost use Rattle.run.specs.Lines.{pointLines, longest, afterLast, endsPast, listedOf, written};
 ghost use Rattle.run.specs.Lines.{imageAfter, memoryAfter};
 ghost use Rattle.running.specs.Progress.{HoldsImage, progressed};
@@ -19,9 +18,6 @@ use operation::Operation;
 use run::Listed;
 use run::Ran;
 use settings::Settings;
-
-// A budget that no drawing's pixels exceed.
-const UNLIMITED: u64 = u64::MAX;
 
 // Copies a memory over another of its size.
 fn copy(from: &[u16], to: &mut [u16])
@@ -54,13 +50,15 @@ fn run_over(image: &[u16], memory: &mut [u16], op: Operation, s: Settings) -> Ra
         × (now (memory .exit) ≡ drawn op s 0 unlimited (now (image .entry))) ⌝ }
 {
     copy(image, memory);
-    let o = drawing::draw(memory, op, s, 0, false, UNLIMITED);
+    let o = drawing::draw(memory, op, s, 0, false, drawing::UNLIMITED);
     let c = memory::changed(image, memory);
+    let time = fill_timing::fill_time(op, s, o.visited);
     Ran {
         answer: o.answer,
         visited: o.visited,
         v: o.v,
         changed: c.bits,
+        states: time.states,
     }
 }
 
@@ -99,7 +97,7 @@ fn put_line(out: &mut [u8], at: usize, point: u64, ran: Ran) -> usize
 {
     let answer = ran.answer as u64;
     let v = bit(ran.v);
-    let line = [point, answer, ran.visited, v, ran.changed];
+    let line = [point, answer, ran.visited, v, ran.changed, ran.states];
     put_lines::numbers(out, at, &line)
 }
 

@@ -4,7 +4,6 @@ use mathlib.Core.Bool.{Bool, true, false, cond}
 use mathlib.Core.List.{List, [], _++_, append-assoc, append-nil}
 use mathlib.Core.Logic.{_⊎_, inl, inr, _≢_}
 use Prim.Native.Nat.{ℕ, _+_, _-_, _^_, _≤_, _<_, min}
-use native.Mathlib.Nat.{mod-lt}
 use native.Mathlib.Omega.{arith}
 use borrow.Author.Tests.{eqb-true, eqb-false, ne-eqb, leb-true, leb-false}
 use lib.Dec.{eqb, leb}
@@ -30,7 +29,7 @@ use Rattle.listing.specs.Listing.{heading, refusedLine}
 use Rattle.run.specs.Run.{ranOver, imageFor}
 use Rattle.run.specs.Lines.{pointLines}
 use Rattle.run.proofs.RunLaws.{ranOver-refused, ranOver-done}
-use Rattle.run.proofs.LinesLaws.{pointLines-add}
+use Rattle.run.proofs.LinesLaws.{dydx-lt, pointLines-add}
 use Rattle.run.proofs.AnswerLaws.{endsPast-of-point, endsPast-of-none}
 use Rattle.run.proofs.ValuesLaws.{settings-kept-small}
 use Rattle.theorems.specs.Plans.{planLines}
@@ -48,11 +47,8 @@ refused-point op s m h =
       visited = refl;
       v = refl;
       changed = refl;
+      states = refl;
     })
-
-dydx-lt : (vs : List ℕ) → settingsOf vs .dydx < 2 ^ 32
-unfolding settingsOf
-dydx-lt vs = mod-lt _ (omega arith)
 
 whole-or-refused : (op : Operation) (s : Settings) (m : List ℕ) → s .dydx < 2 ^ 32
     → ((ranOver op s m .answer ≡ 0) × (ranOver op s m .visited ≡ pixels (drawingFor op s))) ⊎ RefusedPoint (ranOver op s m)

@@ -16,11 +16,11 @@ planText =
 
 abbrev pub listingText : List ℕ
 listingText =
-    ascii "point\tanswer\tvisited\tV\tchanged\n"
-    ++ ascii "0\t0\t2\t0\t8\n"
-    ++ ascii "1\t0\t2\t0\t8\n"
-    ++ ascii "2\t0\t2\t0\t8\n"
-    ++ ascii "3\t0\t2\t0\t16\n"
+    ascii "point\tanswer\tvisited\tV\tchanged\tstates\n"
+    ++ ascii "0\t0\t2\t0\t8\t10\n"
+    ++ ascii "1\t0\t2\t0\t8\t10\n"
+    ++ ascii "2\t0\t2\t0\t8\t9\n"
+    ++ ascii "3\t0\t2\t0\t16\t9\n"
 
 abbrev pub ExampleListed : Type 0
 ExampleListed = listing planText ≡ listingText

@@ -31,6 +31,7 @@ pub record RefusedPoint (r : Ran) : Type 0 where
   pub visited : r .visited ≡ 0
   pub v : r .v ≡ false
   pub changed : r .changed ≡ 0
+  pub states : r .states ≡ 0
 
 -- Every point is whole, with answer 0 and all its pixels visited, or refused. So no
 -- line of a listing has answer 1.

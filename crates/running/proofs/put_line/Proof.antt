@@ -30,7 +30,7 @@ returns c =
     let b = n .before .before .before in
     let start = b .before .before .before in
     let x = start .args in
-    let given : List ℕ = x .point ∷ x .ran .answer ∷ x .ran .visited ∷ b .bit .result ∷ x .ran .changed ∷ [] in
+    let given : List ℕ = x .point ∷ x .ran .answer ∷ x .ran .visited ∷ b .bit .result ∷ x .ran .changed ∷ x .ran .states ∷ [] in
     let e : numbersLine given ≡ lineOf (x .point) (x .ran) = rw (b .bit .ensures) in
     line-placed (x .at) (numbersLine given) (lineOf (x .point) (x .ran)) (x .out .now) e (start .pre) (n .numbers .ensures .0)
     (n .numbers .ensures .1)

@@ -17,13 +17,17 @@ draw-requires c κs = search needs
 changed-requires : tie.Need-changed-requires
 changed-requires c κs = search needs
 
+fill-time-requires : tie.Need-fill-time-requires
+fill-time-requires c κs = search needs
+
 same-length : tie.Need-same-length
 same-length c = search needs
 
 returns : tie.Need-returns
 unfolding ranOver
 returns c =
-    let after = c .before .before .before in
+    let counted = c .before in
+    let after = counted .before .before .before in
     let d = after .before in
     let copied = d .before .before .before in
     let k = copied .before in
@@ -32,8 +36,9 @@ returns c =
     let image = start .args .image .now in
     let l : length (d .draw .last .0) ≡ length image = omega arith in
     let n = counted-bits image (d .draw .last .0) (start .pre .1) l in
-    (rw (c .changed .ensures, n, d .draw .ensures .0, d .draw .ensures .1, k .copy .ensures), rw (d .draw .ensures .1, k .copy .ensures))
+    let e = d .draw .ensures in
+    (rw (c .fill-time .ensures, counted .changed .ensures, n, e .0, e .1, k .copy .ensures), rw (e .1, k .copy .ensures))
 
 pub run-over-spec : {M : Type 1} → statement M
 run-over-spec =
-    tie.close (tie.spec copy-requires draw-requires changed-requires same-length returns)
+    tie.close (tie.spec copy-requires draw-requires changed-requires fill-time-requires same-length returns)
