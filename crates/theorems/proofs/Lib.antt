@@ -14,5 +14,7 @@ pub mod Names
 pub mod Plans
 pub mod WritingLaws
 pub mod Runs
+pub mod RowLaws
+pub mod Timing
 pub mod Example
 pub mod Theorems

@@ -10,6 +10,7 @@ use Rattle.theorems.proofs.Slices.{of-slices}
 use Rattle.theorems.proofs.Names.{of-names}
 use Rattle.theorems.proofs.Plans.{of-plans}
 use Rattle.theorems.proofs.Runs.{of-runs}
+use Rattle.theorems.proofs.Timing.{of-timing}
 use Rattle.theorems.proofs.Example.{of-example}
 
 pub theorems : Theorems
@@ -25,5 +26,6 @@ theorems =
       names = of-names;
       plans = of-plans;
       runs = of-runs;
+      timing = of-timing;
       example = of-example;
     }

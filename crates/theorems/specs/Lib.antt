@@ -8,5 +8,6 @@ pub mod Slices
 pub mod Names
 pub mod Plans
 pub mod Runs
+pub mod Timing
 pub mod Example
 pub mod Theorems

@@ -11,6 +11,7 @@ use Rattle.theorems.specs.Slices.{OfSlices}
 use Rattle.theorems.specs.Names.{OfNames}
 use Rattle.theorems.specs.Plans.{OfPlans}
 use Rattle.theorems.specs.Runs.{OfRuns}
+use Rattle.theorems.specs.Timing.{OfTiming}
 use Rattle.theorems.specs.Example.{OfExample}
 
 pub record Theorems : Type 0 where
@@ -24,4 +25,5 @@ pub record Theorems : Type 0 where
   pub names : OfNames
   pub plans : OfPlans
   pub runs : OfRuns
+  pub timing : OfTiming
   pub example : OfExample
