@@ -3,15 +3,6 @@
 
 enum source_kind { NO_SOURCE, LINEAR_SOURCE, XY_SOURCE, BINARY_SOURCE };
 
-/* What a call knows before it visits a pixel. */
-struct drawing {
-    struct window_answer window;
-    uint64_t n;            /* "n pixels in all" */
-    bool negative_start;   /* an XY start after clipping has a negative X or Y */
-    uint32_t destination;  /* linear start of the drawn array */
-    uint32_t source;       /* linear start of its source */
-};
-
 /* The second word of an operation's name, or the only one, says where it draws. */
 static bool destination_is_xy(enum operation op)
 {
@@ -73,7 +64,7 @@ static int refusal_by_settings(struct memory m, enum operation op, const struct 
 
 /* "The destination rectangle X to X+DX-1, Y to Y+DY-1 is in whole numbers, unwrapped." "DX and DY
    are unsigned." A linear array is counted from 0, 0. */
-static struct rectangle array_of(enum operation op, const struct settings *s)
+struct rectangle array_of(enum operation op, const struct settings *s)
 {
     struct rectangle a = { 0, 0, 0, 0 };
     if (destination_is_xy(op)) {
@@ -128,7 +119,7 @@ static void find_source(struct drawing *d, enum operation op, const struct setti
 }
 
 /* All that is settled by the settings: the window's word, n, and the two starts. */
-static struct drawing drawing_of(enum operation op, const struct settings *s, int v)
+struct drawing drawing_of(enum operation op, const struct settings *s, int v)
 {
     struct drawing d = { window_of(op, s, v), 0, false, 0, 0 };
     d.n = (uint64_t)d.window.drawn.columns * (uint64_t)d.window.drawn.rows;
@@ -198,6 +189,16 @@ static int refusal_by_pixels(struct memory m, const struct drawing *d, enum oper
     return DONE;
 }
 
+/* Refusals 10 to 17, the lowest that applies; 0 if none does. No word of the memory is read. */
+int draw_refusal(struct memory m, enum operation op, const struct settings *s, uint64_t place)
+{
+    int answer = refusal_by_settings(m, op, s);
+    if (answer != DONE)
+        return answer;
+    struct drawing d = drawing_of(op, s, 0);
+    return refusal_by_pixels(m, &d, op, s, place);
+}
+
 /* "FILL and DRAV take S from the low 16 bits of COLOR1 at the destination's place in its word. B
    sources take COLOR1 for a 1 bit and COLOR0 for a 0 bit the same way." */
 static uint32_t source_pixel(struct memory m, const struct drawing *d, enum operation op,
@@ -252,13 +253,10 @@ struct draw_answer draw(struct memory m, enum operation op, const struct setting
                         uint64_t place, int v, uint64_t budget)
 {
     struct draw_answer r = { DONE, place, 0, v, 0, s->SADDR, s->DADDR, s->DYDX };
-    r.answer = refusal_by_settings(m, op, s);
+    r.answer = draw_refusal(m, op, s, place);
     if (r.answer != DONE)
         return r;
     struct drawing d = drawing_of(op, s, v);
-    r.answer = refusal_by_pixels(m, &d, op, s, place);
-    if (r.answer != DONE)
-        return r;
     r.visited = budget < d.n - place ? budget : d.n - place;
     for (uint64_t i = 0; i < r.visited; i++)
         visit(m, &d, op, s, place + i);

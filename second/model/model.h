@@ -1,4 +1,5 @@
-/* A naive model of a chip's drawing side, written from the scope's text alone.
+/* A naive model of a chip's drawing side, written from the scope's text alone, and FILL timing from
+   document 000, section 13.3.
    Every part follows the text sentence by sentence; nothing here is meant to be fast. */
 #ifndef MODEL_H
 #define MODEL_H
@@ -144,6 +145,7 @@ struct settings {
 uint32_t control_pp(const struct settings *s);
 uint32_t control_t(const struct settings *s);
 uint32_t control_w(const struct settings *s);
+uint32_t control_cd(const struct settings *s);
 bool psize_is_bad(const struct settings *s);
 bool control_is_bad(const struct settings *s);
 uint32_t pixel_of_word(uint32_t word, uint32_t address, uint32_t P);
@@ -209,8 +211,32 @@ struct draw_answer {
     uint32_t DYDX;
 };
 
+/* What a call knows before it visits a pixel. */
+struct drawing {
+    struct window_answer window;
+    uint64_t n;            /* "n pixels in all" */
+    bool negative_start;   /* an XY start after clipping has a negative X or Y */
+    uint32_t destination;  /* linear start of the drawn array */
+    uint32_t source;       /* linear start of its source */
+};
+
+struct rectangle array_of(enum operation op, const struct settings *s);
+struct drawing drawing_of(enum operation op, const struct settings *s, int v);
+int draw_refusal(struct memory m, enum operation op, const struct settings *s, uint64_t place);
 struct draw_answer draw(struct memory m, enum operation op, const struct settings *s,
                         uint64_t place, int v, uint64_t budget);
+
+/* ---- FILL timing (fill_timing.c) ---- */
+
+struct fill_answer {
+    int answer;          /* 0, or the refusal of the whole drawing */
+    uint64_t setup;
+    uint64_t transfer;
+    uint64_t adjustment;
+    uint64_t states;     /* setup + transfer - adjustment */
+};
+
+struct fill_answer fill_states(uint64_t words, enum operation op, const struct settings *s);
 
 /* ---- PIXT and DRAV (pixt.c) ---- */
 

@@ -30,6 +30,12 @@ uint32_t control_w(const struct settings *s)
     return control_bits(s, 6, 2);
 }
 
+/* "CD (CONTROL bit 15)" */
+uint32_t control_cd(const struct settings *s)
+{
+    return control_bits(s, 15, 1);
+}
+
 /* Refusal 11: "PSIZE isn't 1, 2, 4, 8 or 16". */
 bool psize_is_bad(const struct settings *s)
 {

@@ -343,7 +343,8 @@ struct point_answer plan_point(const struct plan *p, uint64_t number)
 /* ---- Runs ---- */
 
 /* One point: the image, the drawing over it ("V starts at 0", whole) and its line. "`changed`
-   counts memory bits that differ from the image." */
+   counts memory bits that differ from the image." "The run listing gains a last column `states`
+   ... For other drawings, refused points and points that visit no pixel it is 0." */
 static void run_point(const struct plan *p, uint64_t number, struct memory image,
                       struct memory drawn, FILE *out)
 {
@@ -352,8 +353,10 @@ static void run_point(const struct plan *p, uint64_t number, struct memory image
     memcpy(drawn.word, image.word, (size_t)image.words * sizeof image.word[0]);
     struct draw_answer r = draw(drawn, p->op, &point.settings, 0, 0, UINT64_MAX);
     struct changed_answer c = changed_bits(drawn, image);
-    fprintf(out, "%llu\t%d\t%llu\t%d\t%llu\n", (unsigned long long)number, r.answer,
-            (unsigned long long)r.visited, r.v, (unsigned long long)c.count);
+    struct fill_answer f = fill_states(p->words, p->op, &point.settings);
+    fprintf(out, "%llu\t%d\t%llu\t%d\t%llu\t%llu\n", (unsigned long long)number, r.answer,
+            (unsigned long long)r.visited, r.v, (unsigned long long)c.count,
+            (unsigned long long)f.states);
 }
 
 /* "A run of the plan ... writes exactly this". "A refused plan writes only `refused`, number,
@@ -370,7 +373,7 @@ void plan_listing(const unsigned char *text, size_t length, FILE *out)
     }
     struct memory image = { image_word, p.words };
     struct memory drawn = { drawn_word, p.words };
-    fprintf(out, "point\tanswer\tvisited\tV\tchanged\n");
+    fprintf(out, "point\tanswer\tvisited\tV\tchanged\tstates\n");
     for (uint64_t number = 0; number < plan_count(&p); number++)
         run_point(&p, number, image, drawn, out);
 }

@@ -454,6 +454,259 @@ static void test_slices(void)
     check("place of 64 bits", r.answer == 15 && r.place == ((uint64_t)1 << 32) + 1);
 }
 
+/* ---- FILL timing ---- */
+
+/* Whether a drawing over this many words is done and has these four numbers. */
+static bool fill_is(uint64_t words, enum operation op, const struct settings *s, uint64_t setup,
+                    uint64_t transfer, uint64_t adjustment, uint64_t states)
+{
+    struct fill_answer r = fill_states(words, op, s);
+    return r.answer == 0 && r.setup == setup && r.transfer == transfer
+        && r.adjustment == adjustment && r.states == states;
+}
+
+/* Whether a drawing over 1000 words has this answer and no states. */
+static bool fill_is_nothing(enum operation op, const struct settings *s, int answer)
+{
+    struct fill_answer r = fill_states(1000, op, s);
+    return r.answer == answer && r.setup == 0 && r.transfer == 0 && r.adjustment == 0
+        && r.states == 0;
+}
+
+/* Examples 13-1 to 13-3: 483, 1,113 and 1,293 states. Start adjust, L=15, N=14, alignment C.
+   G=2: 16 + (3 + 14*2)15 + 2 = 16 + 467. G=5: 16 + (3 + 14*5)15 + 2 = 16 + 1097.
+   G=6: 16 + (3 + 14*6)15 + 2 - 2*15 = 16 + 1307 - 30. */
+static void test_fill_examples(void)
+{
+    struct settings s = figure_settings();
+    s.WSTART = 0x004900EB;
+    s.WEND = 0x005F0140;
+    s.DYDX = 0x0014003C;
+    s.CONTROL = control(0, 3, 0);
+    check("example 13-1", fill_is(11208, FILL_XY, &s, 16, 467, 0, 483));
+    check("example 13-1, 17", fill_states(11207, FILL_XY, &s).answer == 17
+          && fill_states(11207, FILL_XY, &s).states == 0);
+    s.CONTROL = control(20, 3, 0);
+    check("example 13-2", fill_is(11208, FILL_XY, &s, 16, 1097, 0, 1113));
+    s.CONTROL = control(5, 3, 1);
+    s.PMASK = 0x8888;
+    check("example 13-3", fill_is(11208, FILL_XY, &s, 16, 1307, 30, 1293));
+    s.CONTROL = (uint16_t)(s.CONTROL | 0x8000);
+    check("example 13-3, CD", fill_is(11208, FILL_XY, &s, 19, 1307, 30, 1296));
+}
+
+/* A FILL L of rows of pixels of 4 bits, with what table 13-6 gives for it. */
+struct fill_case {
+    uint32_t address;
+    uint32_t columns;
+    uint64_t transfer;  /* replace, G=2 */
+    uint64_t masked;    /* the same with G=4 */
+    uint64_t adjustment;
+};
+
+/* Three rows each: the first and the last bit of a row, then the two transfers. */
+static const struct fill_case fill_cases[14] = {
+    { 0, 4, 11, 17, 0 },    /* 0 to 15, short A: (1+2)3 + 2; (1+4)3 + 2 */
+    { 0, 2, 14, 20, 6 },    /* 0 to 7, short B: (2+2)3 + 2; (2+4)3 + 2 */
+    { 8, 2, 13, 19, 6 },    /* 8 to 15, short C: (2+2)3 + 1; (2+4)3 + 1 */
+    { 4, 2, 13, 19, 12 },   /* 4 to 11, short D: (2+2)3 + 1; (2+4)3 + 1 */
+    { 16, 8, 20, 32, 0 },   /* 16 to 47, medium A: (2+4)3 + 2; (2+8)3 + 2 */
+    { 16, 5, 23, 35, 6 },   /* 16 to 35, medium B: (3+4)3 + 2; (3+8)3 + 2 */
+    { 28, 5, 23, 35, 6 },   /* 28 to 47, medium C: (3+4)3 + 2; (3+8)3 + 2 */
+    { 28, 2, 25, 37, 12 },  /* 28 to 35, medium D: (4+4)3 + 1; (4+8)3 + 1 */
+    { 0, 12, 23, 41, 0 },   /* 0 to 47, long A, N=3: (1+6)3 + 2; (1+12)3 + 2 */
+    { 0, 9, 29, 47, 6 },    /* 0 to 35, long B, N=3: (2+6)3 + 5; (2+12)3 + 5 */
+    { 12, 9, 29, 47, 6 },   /* 12 to 47, long C, N=3: (3+6)3 + 2; (3+12)3 + 2 */
+    { 12, 6, 31, 49, 12 },  /* 12 to 35, long D, N=3: (4+6)3 + 1; (4+12)3 + 1 */
+    { 12, 14, 43, 73, 12 }, /* 12 to 67, long D, N=5: (4+10)3 + 1; (4+20)3 + 1 */
+    { 48, 17, 41, 71, 6 }   /* 48 to 115, long B, N=5: (2+10)3 + 5; (2+20)3 + 5 */
+};
+
+/* Table 13-6: replace, then with T, with PMASK, and with both, which count once; CD adds 3. */
+static void test_fill_transfer(void)
+{
+    for (int i = 0; i < 14; i++) {
+        const struct fill_case *c = &fill_cases[i];
+        struct settings s = plain_settings(4);
+        uint64_t states = 4 + c->masked - c->adjustment;
+        s.DADDR = c->address;
+        s.DYDX = (3u << 16) | c->columns;
+        check("table 13-6", fill_is(1000, FILL_L, &s, 4, c->transfer, 0, 4 + c->transfer));
+        s.CONTROL = control(0, 0, 1);
+        check("table 13-6, T",
+              fill_is(1000, FILL_L, &s, 4, c->masked, c->adjustment, states));
+        s.PMASK = 0x8000;
+        check("table 13-6, T and PMASK",
+              fill_is(1000, FILL_L, &s, 4, c->masked, c->adjustment, states));
+        s.CONTROL = 0x8000;
+        check("table 13-6, PMASK and CD",
+              fill_is(1000, FILL_L, &s, 7, c->masked, c->adjustment, 3 + states));
+    }
+}
+
+/* One row of the other pixel sizes. */
+static void test_fill_sizes(void)
+{
+    struct settings s = plain_settings(16);
+    s.DYDX = 0x00010002;
+    check("PSIZE 16", fill_is(2, FILL_L, &s, 4, 8, 0, 12));        /* medium A: 2+4 + 2 */
+    s.PMASK = 1;
+    check("PSIZE 16, PMASK", fill_is(2, FILL_L, &s, 4, 12, 0, 16));  /* 2+8 + 2 */
+    s = plain_settings(8);
+    s.DADDR = 8;
+    s.DYDX = 0x00010002;
+    check("PSIZE 8", fill_is(2, FILL_L, &s, 4, 9, 0, 13));         /* 8 to 23, medium D: 4+4 + 1 */
+    s = plain_settings(2);
+    s.DADDR = 14;
+    s.DYDX = 0x0001000A;
+    check("PSIZE 2", fill_is(3, FILL_L, &s, 4, 11, 0, 15));        /* 14 to 33, long D: 4+6 + 1 */
+    s = plain_settings(1);
+    s.DADDR = 15;
+    s.DYDX = 0x00010001;
+    check("PSIZE 1", fill_is(1, FILL_L, &s, 4, 5, 0, 9));          /* 15, short C: 2+2 + 1 */
+    s.DYDX = 0x00010011;
+    check("PSIZE 1, 17 bits", fill_is(2, FILL_L, &s, 4, 9, 0, 13));  /* 15 to 31, C: 3+4 + 2 */
+    s.DYDX = 0x00010012;
+    check("PSIZE 1, 18 bits", fill_is(3, FILL_L, &s, 4, 11, 0, 15)); /* 15 to 32, D: 4+6 + 1 */
+}
+
+/* Table 13-7 over one row of 12 to 47, long C, N=3: (3 + 3G) + 2, which is 11, 17, 20 or 23 for G
+   of 2, 4, 5 or 6, and 17, 23, 26 or 29 for G of 4, 6, 7 or 8, less 2. */
+static void test_fill_graphics(void)
+{
+    static const uint64_t plain[22] = { 11, 17, 17, 17, 17, 17, 17, 17, 17, 17, 17,
+                                        17, 17, 17, 17, 17, 17, 20, 20, 23, 20, 20 };
+    static const uint64_t masked[22] = { 17, 23, 23, 23, 23, 23, 23, 23, 23, 23, 23,
+                                         23, 23, 23, 23, 23, 23, 26, 26, 29, 26, 26 };
+    for (uint32_t pp = 0; pp < 22; pp++) {
+        struct settings s = plain_settings(4);
+        s.DADDR = 12;
+        s.DYDX = 0x00010009;
+        s.CONTROL = control(pp, 0, 0);
+        check("table 13-7", fill_is(3, FILL_L, &s, 4, plain[pp], 0, 4 + plain[pp]));
+        s.PMASK = 0x0100;
+        check("table 13-7, PMASK", fill_is(3, FILL_L, &s, 4, masked[pp], 2, 2 + masked[pp]));
+        s.PMASK = 0;
+        s.CONTROL = control(pp, 0, 1);
+        check("table 13-7, T", fill_is(3, FILL_L, &s, 4, masked[pp], 2, 2 + masked[pp]));
+    }
+}
+
+/* A window over the array of columns 2 to 5 and rows 1 to 3, and what is worked out for it. */
+struct window_case {
+    uint32_t w;
+    int left, top, right, bottom;
+    uint64_t setup;
+    uint64_t transfer;
+};
+
+/* Pixels of 4 bits, so that the whole row has the bits 8 to 23 (medium D). G=2. */
+static const struct window_case window_cases[15] = {
+    { 0, 9, 9, 0, 0, 6, 25 },     /* W=0, any window: (4+4)3 + 1 */
+    { 2, 0, 0, 15, 15, 9, 25 },   /* fits */
+    { 2, 2, 1, 5, 3, 9, 25 },     /* fits exactly */
+    { 3, 0, 0, 15, 15, 9, 25 },   /* fits */
+    { 3, 2, 1, 5, 3, 9, 25 },     /* fits exactly */
+    { 3, 4, 0, 15, 15, 16, 14 },  /* start in X; 16 to 23, short B: (2+2)3 + 2 */
+    { 3, 0, 2, 15, 15, 16, 17 },  /* start in Y: (4+4)2 + 1 */
+    { 3, 4, 3, 15, 15, 16, 6 },   /* start in X and Y: (2+2)1 + 2 */
+    { 3, 0, 0, 3, 15, 12, 13 },   /* end in X; 8 to 15, short C: (2+2)3 + 1 */
+    { 3, 0, 0, 15, 1, 12, 9 },    /* end in Y: (4+4)1 + 1 */
+    { 3, 0, 0, 3, 2, 12, 9 },     /* end in X and Y: (2+2)2 + 1 */
+    { 3, 3, 0, 4, 15, 20, 25 },   /* both in X; 12 to 19, medium D: (4+4)3 + 1 */
+    { 3, 0, 2, 15, 2, 20, 9 },    /* both in Y: (4+4)1 + 1 */
+    { 3, 4, 0, 15, 2, 20, 10 },   /* start in X, end in Y; short B: (2+2)2 + 2 */
+    { 3, 0, 2, 3, 15, 20, 9 }     /* start in Y, end in X; short C: (2+2)2 + 1 */
+};
+
+/* Settings for such an array. */
+static struct settings window_settings(uint32_t w, int left, int top, int right, int bottom)
+{
+    struct settings s = plain_settings(4);
+    s.DADDR = xy_number(2, 1);
+    s.DYDX = xy_number(4, 3);
+    s.WSTART = xy_number(left, top);
+    s.WEND = xy_number(right, bottom);
+    s.CONTROL = control(0, w, 0);
+    return s;
+}
+
+/* Table 13-5, FILL XY, with and without the cache; FILL L has 4 whatever W is. */
+static void test_fill_setup(void)
+{
+    for (int i = 0; i < 15; i++) {
+        const struct window_case *c = &window_cases[i];
+        struct settings s = window_settings(c->w, c->left, c->top, c->right, c->bottom);
+        check("table 13-5",
+              fill_is(1000, FILL_XY, &s, c->setup, c->transfer, 0, c->setup + c->transfer));
+        s.CONTROL = (uint16_t)(s.CONTROL | 0x8000);
+        check("table 13-5, CD", fill_is(1000, FILL_XY, &s, 3 + c->setup, c->transfer, 0,
+                                        3 + c->setup + c->transfer));
+    }
+    for (uint32_t w = 0; w < 4; w++) {
+        struct settings s = window_settings(w, 9, 9, 0, 0);
+        s.DADDR = 8;
+        check("FILL L ignores W", fill_is(1000, FILL_L, &s, 4, 25, 0, 29));
+    }
+    /* From -2, -1 on, clipped at 0, 0: columns 0 and 1, rows 0 and 1. Short B: (2+2)2 + 2. */
+    struct settings s = window_settings(3, 0, 0, 15, 15);
+    s.DADDR = xy_number(-2, -1);
+    check("start adjust from below 0", fill_is(1000, FILL_XY, &s, 16, 10, 0, 26));
+}
+
+/* "For other drawings, refused points and points that visit no pixel it is 0." */
+static void test_fill_nothing(void)
+{
+    struct settings s = window_settings(1, 0, 0, 15, 15);
+    check("W=1, hit", fill_is_nothing(FILL_XY, &s, 0));
+    s = window_settings(1, 6, 0, 15, 15);
+    check("W=1, miss", fill_is_nothing(FILL_XY, &s, 0));
+    s.CONTROL = control(0, 3, 0);
+    check("W=3, miss", fill_is_nothing(FILL_XY, &s, 0));
+    s = window_settings(2, 3, 0, 15, 15);
+    check("W=2, miss", fill_is_nothing(FILL_XY, &s, 0));
+    for (uint32_t w = 0; w < 4; w++) {
+        s = window_settings(w, 0, 0, 15, 15);
+        s.DYDX = xy_number(0, 3);
+        check("no columns", fill_is_nothing(FILL_XY, &s, 0) && fill_is_nothing(FILL_L, &s, 0));
+        s.DYDX = xy_number(4, 0);
+        check("no rows", fill_is_nothing(FILL_XY, &s, 0) && fill_is_nothing(FILL_L, &s, 0));
+    }
+    s = window_settings(0, 0, 0, 15, 15);
+    s.DADDR = 0;
+    for (int op = PIXBLT_L_L; op <= PIXBLT_B_XY; op++)
+        check("PIXBLT", fill_is_nothing((enum operation)op, &s, 0));
+    s.SPTCH = 7;
+    check("PIXBLT, 13", fill_is_nothing(PIXBLT_L_L, &s, 13));
+}
+
+/* What the whole drawing is refused with; the settings 10 to 14, the start 16 and an address 17. */
+static void test_fill_refusals(void)
+{
+    struct settings s = window_settings(0, 0, 0, 15, 15);
+    check("FILL timing, 10", fill_states(0, FILL_XY, &s).answer == 10
+          && fill_states(0, FILL_XY, &s).states == 0);
+    check("FILL timing, 10 above", fill_states(1048577, FILL_XY, &s).answer == 10
+          && fill_states(1048577, FILL_XY, &s).states == 0);
+    check("FILL timing, most words", fill_is(1048576, FILL_XY, &s, 6, 25, 0, 31));
+    /* The last row has the bits 200 to 215, which are in words 12 and 13. */
+    check("FILL timing, 14 words", fill_is(14, FILL_XY, &s, 6, 25, 0, 31));
+    check("FILL timing, 13 words", fill_states(13, FILL_XY, &s).answer == 17
+          && fill_states(13, FILL_XY, &s).states == 0);
+    s.DADDR = xy_number(-1, 1);
+    check("FILL timing, 16", fill_is_nothing(FILL_XY, &s, 16));
+    s.DADDR = 2;
+    check("FILL timing, 16, linear", fill_is_nothing(FILL_L, &s, 16));
+    s = window_settings(3, 9, 9, 0, 0);
+    check("FILL timing, 14", fill_is_nothing(FILL_XY, &s, 14));
+    s.DPTCH = 48;
+    check("FILL timing, 13", fill_is_nothing(FILL_XY, &s, 13));
+    s.CONTROL = control(22, 3, 0);
+    check("FILL timing, 12", fill_is_nothing(FILL_XY, &s, 12));
+    s.PSIZE = 3;
+    check("FILL timing, 11", fill_is_nothing(FILL_XY, &s, 11));
+}
+
 /* ---- PIXT and DRAV ---- */
 
 /* "DRAV from 0000FFFFh with step 1, W=3, window from 0,0: not drawn, V=1, new point 0." */
@@ -547,17 +800,18 @@ static bool refused_at(const char *text, int number, int line)
     return listing_is(text, strlen(text), expected);
 }
 
-/* The scope's example. */
+/* The scope's example. Two pixels of 4 bits are B of a short line: 4 + (2 + 2) + 2 = 10 states; two
+   of 8 bits are A: 4 + (1 + 2) + 2 = 9. */
 static void test_example_listing(void)
 {
     const char *text = "memory\t4\ndraw\tFILL L\naxis\tPSIZE\t4\t8\n"
                        "axis\tCOLOR1\t255\t65535\naxis\tDYDX\t65538\n";
     check("example listing", listing_is(text, strlen(text),
-          "point\tanswer\tvisited\tV\tchanged\n0\t0\t2\t0\t8\n1\t0\t2\t0\t8\n2\t0\t2\t0\t8\n"
-          "3\t0\t2\t0\t16\n"));
+          "point\tanswer\tvisited\tV\tchanged\tstates\n0\t0\t2\t0\t8\t10\n1\t0\t2\t0\t8\t10\n"
+          "2\t0\t2\t0\t8\t9\n3\t0\t2\t0\t16\t9\n"));
     text = "# a comment\n\nmemory\t1\n#\ndraw\tPIXBLT B,XY\n";
     check("refused point", listing_is(text, strlen(text),
-          "point\tanswer\tvisited\tV\tchanged\n0\t13\t0\t0\t0\n"));
+          "point\tanswer\tvisited\tV\tchanged\tstates\n0\t13\t0\t0\t0\t0\n"));
 }
 
 /* "Axes of 2 and 3 values: point 4 has indices 1 and 1; point 6 gives 24." */
@@ -614,7 +868,7 @@ static void test_plan_names(void)
     check("value twice", refused_at("memory\t4\ndraw\tFILL L\naxis\tDADDR\t1\t0\t1\n", 22, 3));
     const char *text = "memory\t4\ndraw\tFILL L\naxis\tSEED\t18446744073709551615\t0\n";
     check("largest seed", listing_is(text, strlen(text),
-          "point\tanswer\tvisited\tV\tchanged\n0\t0\t0\t0\t0\n1\t0\t0\t0\t0\n"));
+          "point\tanswer\tvisited\tV\tchanged\tstates\n0\t0\t0\t0\t0\t0\n1\t0\t0\t0\t0\t0\n"));
 }
 
 /* A plan with this many values on its SEED axis, the last one given. */
@@ -641,7 +895,7 @@ static void test_plan_many(void)
                         "axis\tDYDX\t0\n";
     char text[512];
     check("eight axes", listing_is(eight, strlen(eight),
-          "point\tanswer\tvisited\tV\tchanged\n0\t0\t0\t0\t0\n"));
+          "point\tanswer\tvisited\tV\tchanged\tstates\n0\t0\t0\t0\t0\t0\n"));
     snprintf(text, sizeof text, "%saxis\tCOLOR0\t0\n", eight);
     check("nine axes", refused_at(text, 23, 11));
     snprintf(text, sizeof text, "%saxis\tDYDX\t0\n", eight);
@@ -662,7 +916,7 @@ static void test_plan_length(void)
     text[MOST_TEXT - 1] = '\n';
     text[MOST_TEXT] = '\n';
     check("longest text", listing_is(text, MOST_TEXT,
-          "point\tanswer\tvisited\tV\tchanged\n0\t0\t0\t0\t0\n"));
+          "point\tanswer\tvisited\tV\tchanged\tstates\n0\t0\t0\t0\t0\t0\n"));
     check("text too long", listing_is(text, MOST_TEXT + 1, "refused\t20\t1\n"));
 }
 
@@ -687,6 +941,13 @@ int main(void)
     test_clipped_source();
     test_wrapping_pitch();
     test_slices();
+    test_fill_examples();
+    test_fill_transfer();
+    test_fill_sizes();
+    test_fill_graphics();
+    test_fill_setup();
+    test_fill_nothing();
+    test_fill_refusals();
     test_drav();
     test_pixt();
     test_example_listing();
