@@ -1,5 +1,7 @@
 /* Compares FILL and PIXBLT: bh_draw and the model's draw, call by call. After each call, refused or
-   not, the answer, every result, the settings and every word of memory are compared. */
+   not, the answer, every result, the settings and every word of memory are compared. Each call is
+   also made as a dry run (bh_outcome), which must hand back the same, and the time of the whole
+   drawing (bh_fill_states) is compared (compare_timing.c). */
 #include "compare_drawings.h"
 
 #include <stdlib.h>
@@ -145,6 +147,30 @@ void print_result(const char *whose, const struct draw_result *r)
     printf("\n");
 }
 
+void print_difference(const char *call, const char *const *name, int names,
+                      const struct draw_result *mine, const struct draw_result *theirs)
+{
+    if (same_result(mine, theirs))
+        printf("  %s: a setting has changed\n", call);
+    if (mine->answer != theirs->answer)
+        printf("  %s: answer: library %lu, model %lu\n", call, (unsigned long)mine->answer,
+               (unsigned long)theirs->answer);
+    for (int i = 0; i < DRAW_OUTS; i++) {
+        if (mine->out[i] != theirs->out[i])
+            printf("  %s: element %d%s%s: library %llu, model %llu\n", call, i,
+                   i < names ? ", " : "", i < names ? name[i] : "",
+                   (unsigned long long)mine->out[i], (unsigned long long)theirs->out[i]);
+    }
+}
+
+static void print_draws(const char *call, const struct draw_result *mine,
+                        const struct draw_result *theirs)
+{
+    static const char *const name[BH_DRAW_RESULTS] = { "place", "visited", "V",   "request",
+                                                       "SADDR", "DADDR",   "DYDX" };
+    print_difference(call, name, BH_DRAW_RESULTS, mine, theirs);
+}
+
 /* All words of a small memory; of another one the seed, and the words that its image does not
    have. */
 static void print_before(const struct twin *m)
@@ -178,10 +204,15 @@ static void print_changes(const struct twin *m)
 
 /* ---- One call ---- */
 
-static void clear_draw_out(uint64_t out[DRAW_OUTS])
+void clear_result(struct draw_result *r)
 {
     for (int i = 0; i < DRAW_OUTS; i++)
-        out[i] = GUARD;
+        r->out[i] = GUARD;
+}
+
+bool same_result(const struct draw_result *a, const struct draw_result *b)
+{
+    return a->answer == b->answer && memcmp(a->out, b->out, sizeof a->out) == 0;
 }
 
 /* *kept is cleared where the call changes a setting. */
@@ -189,9 +220,21 @@ static struct draw_result call_library(const struct draw_case *c, uint16_t *word
 {
     struct draw_case lent = *c;
     struct draw_result r;
-    clear_draw_out(r.out);
+    clear_result(&r);
     r.answer = bh_draw(word, c->words, c->operation, lent.number, c->count, c->place, c->v,
                        c->budget, r.out, c->length);
+    *kept = memcmp(lent.number, c->number, sizeof lent.number) == 0;
+    return r;
+}
+
+/* The dry run of the same call. */
+static struct draw_result call_dry(const struct draw_case *c, bool *kept)
+{
+    struct draw_case lent = *c;
+    struct draw_result r;
+    clear_result(&r);
+    r.answer = bh_outcome(c->words, c->operation, lent.number, c->count, c->place, c->v, c->budget,
+                          r.out, c->length);
     *kept = memcmp(lent.number, c->number, sizeof lent.number) == 0;
     return r;
 }
@@ -201,7 +244,7 @@ static struct draw_result call_model(const struct draw_case *c, uint16_t *word)
 {
     struct memory m = { word, c->words };
     struct draw_result r = { BH_SHORT, { 0 } };
-    clear_draw_out(r.out);
+    clear_result(&r);
     if (c->operation >= OPERATIONS || settings_are_bad(c->number, c->count)
         || c->length < BH_DRAW_RESULTS)
         return r;
@@ -219,23 +262,34 @@ static struct draw_result call_model(const struct draw_case *c, uint16_t *word)
     return r;
 }
 
-/* Calls both from the memory before. */
-static bool agree(const struct draw_case *c, const struct twin *m, struct draw_result *mine,
-                  struct draw_result *theirs)
+/* What the calls of a case hand back, and where the two programs are the same. */
+struct pair {
+    struct draw_result mine, dry, theirs;
+    struct draw_result my_time, their_time;
+    bool same_draw, same_dry, same_time, same_memory;
+};
+
+/* Calls both from the memory before; true where they agree in everything. */
+static bool agree(const struct draw_case *c, const struct twin *m, struct pair *p)
 {
-    bool kept;
-    *mine = call_library(c, m->mine, &kept);
-    *theirs = call_model(c, m->theirs);
-    return kept && mine->answer == theirs->answer
-           && memcmp(mine->out, theirs->out, sizeof mine->out) == 0
-           && memcmp(m->mine, m->theirs, m->held * sizeof *m->mine) == 0;
+    bool kept, kept_dry;
+    p->mine = call_library(c, m->mine, &kept);
+    p->dry = call_dry(c, &kept_dry);
+    p->theirs = call_model(c, m->theirs);
+    p->same_draw = kept && same_result(&p->mine, &p->theirs);
+    p->same_dry = kept_dry && same_result(&p->dry, &p->theirs);
+    p->same_time = true;
+    if (pixels_of(c) <= TAME_PIXELS)
+        p->same_time = times_agree(c, &p->my_time, &p->their_time);
+    p->same_memory = memcmp(m->mine, m->theirs, m->held * sizeof *m->mine) == 0;
+    return p->same_draw && p->same_dry && p->same_time && p->same_memory;
 }
 
 static bool still_differs(const struct draw_case *c, const struct twin *m)
 {
-    struct draw_result mine, theirs;
+    struct pair p;
     put_back(m);
-    return !agree(c, m, &mine, &theirs);
+    return !agree(c, m, &p);
 }
 
 /* Half of a number, or nothing of it. */
@@ -273,9 +327,21 @@ static struct draw_case smaller_case(struct draw_case c, const struct twin *m)
     return c;
 }
 
+static void print_pair(const struct pair *p)
+{
+    print_result("library", &p->mine);
+    print_result("model", &p->theirs);
+    if (!p->same_draw)
+        print_draws("bh_draw", &p->mine, &p->theirs);
+    if (!p->same_dry)
+        print_draws("bh_outcome", &p->dry, &p->theirs);
+    if (!p->same_time)
+        print_times(&p->my_time, &p->their_time);
+}
+
 static void stop_at(const struct draw_case *c, const struct twin *m)
 {
-    struct draw_result mine, theirs;
+    struct pair p;
     print_case("draw");
     print_draw_case(c);
     struct draw_case small = smaller_case(*c, m);
@@ -283,9 +349,8 @@ static void stop_at(const struct draw_case *c, const struct twin *m)
     print_draw_case(&small);
     print_before(m);
     put_back(m);
-    agree(&small, m, &mine, &theirs);
-    print_result("library", &mine);
-    print_result("model", &theirs);
+    agree(&small, m, &p);
+    print_pair(&p);
     print_changes(m);
     stop();
 }
@@ -295,14 +360,30 @@ static void count_call(const struct draw_case *c, const struct draw_result *r,
 
 struct draw_result compare_draw(const struct draw_case *c, struct twin *m)
 {
-    struct draw_result mine, theirs;
+    struct pair p;
     calls++;
-    if (!agree(c, m, &mine, &theirs))
+    if (!agree(c, m, &p))
         stop_at(c, m);
-    count_call(c, &theirs, m);
-    if (theirs.answer <= STOPPED && theirs.out[OUT_VISITED] > 0)
+    count_call(c, &p.theirs, m);
+    if (pixels_of(c) <= TAME_PIXELS)
+        count_time(c, &p.their_time);
+    if (p.theirs.answer <= STOPPED && p.theirs.out[OUT_VISITED] > 0)
         memcpy(m->before, m->mine, m->held * sizeof *m->mine);
-    return theirs;
+    return p.theirs;
+}
+
+/* The model draws over words that no call looks at later. */
+void compare_dry(const struct draw_case *c)
+{
+    bool kept;
+    calls++;
+    struct draw_result mine = call_dry(c, &kept), theirs = call_model(c, words_theirs);
+    if (kept && same_result(&mine, &theirs))
+        return;
+    print_case("a dry run");
+    print_draw_case(c);
+    print_draws("bh_outcome", &mine, &theirs);
+    stop();
 }
 
 /* ---- Counting ---- */
@@ -338,7 +419,7 @@ static bool is_negative(uint32_t xy)
 static void note_window(const struct draw_case *c, uint64_t n)
 {
     uint32_t w = c->number[AT_CONTROL] >> 6 & 3, saddr = c->number[AT_SADDR];
-    struct rectangle array = array_of(c), drawn = drawn_part(c);
+    struct rectangle array = whole_array(c), drawn = drawn_part(c);
     note((enum feature)(WINDOW_0 + w), true);
     note(NEGATIVE_ARRAY, n > 0 && is_negative(c->number[AT_DADDR]));
     if (n == 0 || w != 3)
@@ -423,10 +504,9 @@ uint64_t random_budget(uint64_t left)
     return 1 + random_below((uint32_t)(left / 2) + 2);
 }
 
-/* Fewer rows and columns, so that the model is done soon. */
-static void tame(struct draw_case *c)
+void tame(struct draw_case *c)
 {
-    while (pixels_of(c) > 70000) {
+    while (pixels_of(c) > TAME_PIXELS) {
         uint32_t columns = c->number[AT_DYDX] & 0xFFFF, rows = c->number[AT_DYDX] >> 16;
         c->number[AT_DYDX] = (rows + 1) / 2 << 16 | (columns + 1) / 2;
     }
@@ -573,12 +653,18 @@ static void compare_places(struct draw_case c, struct twin *m)
 static void large_edges(void)
 {
     struct twin m = new_memory(MOST_WORDS);
-    compare_places(many_pixels(FILL_L, 65535u << 16 | 40, 0, 320), &m);
-    compare_places(many_pixels(PIXBLT_B_L, 40u << 16 | 65535, 16, 0), &m);
-    compare_places(many_pixels(FILL_L, 65535u << 16 | 16, 0u - 16, 16u * MOST_WORDS - 16), &m);
-    struct draw_case c = many_pixels(FILL_L, 0x00010001, 0, 0);
-    c.words = LARGE;
-    compare_draw(&c, &m);
+    struct draw_case c[3] = {
+        many_pixels(FILL_L, 65535u << 16 | 40, 0, 320),
+        many_pixels(PIXBLT_B_L, 40u << 16 | 65535, 16, 0),
+        many_pixels(FILL_L, 65535u << 16 | 16, 0u - 16, 16u * MOST_WORDS - 16)
+    };
+    for (int i = 0; i < 3; i++) {
+        compare_places(c[i], &m);
+        compare_time(&c[i]);
+    }
+    struct draw_case one = many_pixels(FILL_L, 0x00010001, 0, 0);
+    one.words = LARGE;
+    compare_draw(&one, &m);
 }
 
 void compare_huge_drawings(void)
@@ -592,6 +678,7 @@ void compare_huge_drawings(void)
     compare_draw(&c, &m);
     c.place = 4294836226;
     compare_draw(&c, &m);
+    compare_time(&c);
 }
 
 /* ---- The run ---- */
@@ -659,6 +746,7 @@ static int print_combinations(void)
 
 void compare_drawings(uint64_t count)
 {
+    compare_timings();
     figure_edges();
     shape_edges();
     large_edges();
@@ -672,6 +760,7 @@ void compare_drawings(uint64_t count)
     missing += print_features();
     missing += print_combinations();
     missing += print_slices();
+    missing += print_timings();
     if (missing > 0 && count >= ENOUGH) {
         printf("compare: %d of these never occurred\n", missing);
         stop();

@@ -4,7 +4,8 @@
 
 #include "compare.h"
 
-/* A call of bh_draw, but for what its memory holds. */
+/* A call of bh_draw, but for what its memory holds. A dry run has the same arguments, and a call of
+   bh_fill_states all but place, V and budget. */
 struct draw_case {
     uint32_t operation;
     uint32_t number[NUMBERS];
@@ -29,6 +30,9 @@ enum draw_out {
     OUT_DYDX
 };
 
+/* Of the time of a FILL. */
+enum time_out { OUT_SETUP, OUT_TRANSFER, OUT_ADJUSTMENT, OUT_STATES };
+
 /* What a call hands back. */
 struct draw_result {
     uint32_t answer;
@@ -47,17 +51,37 @@ struct twin {
 
 extern const char *const operation_name[OPERATIONS];
 
-/* Calls both, and stops the run where they differ in anything. */
+/* Draws by both, makes the dry run, asks both for the time where there aren't very many pixels, and
+   stops the run where they differ in anything. */
 struct draw_result compare_draw(const struct draw_case *c, struct twin *m);
+
+/* The dry run alone, over any number of words: more than any memory has, too. */
+void compare_dry(const struct draw_case *c);
+
+/* All results of a call as guards. */
+void clear_result(struct draw_result *r);
+
+bool same_result(const struct draw_result *a, const struct draw_result *b);
 
 void print_draw_case(const struct draw_case *c);
 void print_result(const char *whose, const struct draw_result *r);
+
+/* The answers and the results of a call in which the two differ, the first results by their names.
+   Where there are none, the call has changed a setting. */
+void print_difference(const char *call, const char *const *name, int names,
+                      const struct draw_result *mine, const struct draw_result *theirs);
 
 /* A memory of this many words with an image. It stands until the next one is made. */
 struct twin new_memory(uint64_t words);
 
 /* A budget when this many pixels are left: mostly some of them; at times none, all or more. */
 uint64_t random_budget(uint64_t left);
+
+/* The model visits each pixel to find a refusal, so a drawing of more than this many is rare. */
+#define TAME_PIXELS 70000
+
+/* Fewer rows and columns, so that the model is done soon. */
+void tame(struct draw_case *c);
 
 /* ---- Random drawings (random_drawing.c) ---- */
 
@@ -86,14 +110,36 @@ struct footprint {
 };
 
 /* The array, and what the window leaves of it. A linear one starts at 0, 0. */
-struct rectangle array_of(const struct draw_case *c);
+struct rectangle whole_array(const struct draw_case *c);
 struct rectangle drawn_part(const struct draw_case *c);
+
+/* The linear address at which that part starts. */
+uint32_t destination_start(const struct draw_case *c);
 
 /* The number of pixels in all. */
 uint64_t pixels_of(const struct draw_case *c);
 
 /* The bits of all pixels of an accepted drawing; every byte was 0. */
 void find_footprint(const struct draw_case *c, struct footprint *f);
+
+/* ---- The time of a drawing (compare_timing.c) ---- */
+
+/* Calls both; true where they agree in everything. */
+bool times_agree(const struct draw_case *c, struct draw_result *mine, struct draw_result *theirs);
+
+/* The same, and stops the run where they differ. */
+void compare_time(const struct draw_case *c);
+
+void print_times(const struct draw_result *mine, const struct draw_result *theirs);
+
+/* Counts the time of a random drawing, and what a FILL that draws had. */
+void count_time(const struct draw_case *c, const struct draw_result *r);
+
+/* Every short row in every mode, every place by a window, and any number of words. */
+void compare_timings(void);
+
+/* Gives the number of things that never occurred. */
+int print_timings(void);
 
 /* ---- Slices of two drawings (compare_slices.c) ---- */
 

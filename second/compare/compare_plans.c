@@ -312,10 +312,13 @@ static void model_point(uint64_t number, FILE *to)
     image_make(lent(model_image), p.seed);
     memcpy(model_memory, model_image, (size_t)model.words * sizeof *model_image);
     struct draw_answer r = draw(lent(model_memory), model.op, &p.settings, 0, 0, UINT64_MAX);
+    if (to == NULL)
+        return;
     struct changed_answer c = changed_bits(lent(model_image), lent(model_memory));
-    if (to != NULL)
-        fprintf(to, "%llu\t%d\t%llu\t%d\t%llu\n", (unsigned long long)number, r.answer,
-                (unsigned long long)r.visited, r.v, (unsigned long long)c.count);
+    struct fill_answer time = fill_states(model.words, model.op, &p.settings);
+    fprintf(to, "%llu\t%d\t%llu\t%d\t%llu\t%llu\n", (unsigned long long)number, r.answer,
+            (unsigned long long)r.visited, r.v, (unsigned long long)c.count,
+            (unsigned long long)time.states);
 }
 
 static void print_bytes(const char *name, const unsigned char *byte, uint64_t count)

@@ -231,7 +231,7 @@ static void run_refused(struct twin *m)
     spoil(&c, m->held);
     bool is_short = c.operation >= OPERATIONS || settings_are_bad(c.number, c.count)
                     || c.length < BH_DRAW_RESULTS;
-    if (!is_short && (pixels_of(&c) > 70000 || is_accepted(c)))
+    if (!is_short && (pixels_of(&c) > TAME_PIXELS || is_accepted(c)))
         return;
     run_event(REFUSED, &c, m);
     refusals++;

@@ -2,7 +2,7 @@
    not meet are chosen by. The geometry is the model's. */
 #include "compare_drawings.h"
 
-struct rectangle array_of(const struct draw_case *c)
+struct rectangle whole_array(const struct draw_case *c)
 {
     struct rectangle a = { 0, 0, c->number[AT_DYDX] & 0xFFFF, c->number[AT_DYDX] >> 16 };
     if (draws_to_xy(c->operation)) {
@@ -16,8 +16,8 @@ struct rectangle drawn_part(const struct draw_case *c)
 {
     struct settings s = settings_of(c->number);
     if (draws_to_xy(c->operation))
-        return window_rule(&s, array_of(c), 0).drawn;
-    return array_of(c);
+        return window_rule(&s, whole_array(c), 0).drawn;
+    return whole_array(c);
 }
 
 uint64_t pixels_of(const struct draw_case *c)
@@ -26,7 +26,7 @@ uint64_t pixels_of(const struct draw_case *c)
     return (uint64_t)drawn.columns * (uint64_t)drawn.rows;
 }
 
-static uint32_t destination_start(const struct draw_case *c)
+uint32_t destination_start(const struct draw_case *c)
 {
     struct settings s = settings_of(c->number);
     struct rectangle drawn = drawn_part(c);
@@ -44,8 +44,8 @@ static uint32_t source_step(const struct draw_case *c)
 static uint32_t source_start(const struct draw_case *c)
 {
     struct settings s = settings_of(c->number);
-    int64_t columns = drawn_part(c).x - array_of(c).x;
-    int64_t rows = drawn_part(c).y - array_of(c).y;
+    int64_t columns = drawn_part(c).x - whole_array(c).x;
+    int64_t rows = drawn_part(c).y - whole_array(c).y;
     if (draws_from_xy(c->operation))
         return xy_linear(&s, x_half(s.SADDR) + columns, y_half(s.SADDR) + rows, s.SPTCH);
     return address_at(s.SADDR, rows, s.SPTCH, columns, source_step(c));

@@ -42,6 +42,8 @@ enum feature {
     FALLING_SOURCE,
     OVERLAP,
     EMPTY_ARRAY,
+    TIMED,
+    TIMED_UNCACHED,
     FEATURES
 };
 
@@ -69,6 +71,8 @@ static const char *const feature_name[FEATURES] = {
     "points that drew with a source pitch from 2^31 on, more than one row",
     "points that drew over source bits",
     "points with an empty array",
+    "points with machine states",
+    "points with machine states, CD=1",
 };
 
 static uint64_t had[FEATURES];
@@ -141,10 +145,12 @@ static void note_drawing(const struct plan *p, const struct point_answer *point)
 
 bool note_line(const struct plan *p, const char *line)
 {
-    unsigned long long number, visited, bits;
+    unsigned long long number, visited, bits, states;
     unsigned answer, v;
-    if (sscanf(line, "%llu\t%u\t%llu\t%u\t%llu", &number, &answer, &visited, &v, &bits) != 5
-        || answer >= POINT_ANSWERS)
+    bool fills = p->op == FILL_L || p->op == FILL_XY;
+    if (sscanf(line, "%llu\t%u\t%llu\t%u\t%llu\t%llu", &number, &answer, &visited, &v, &bits,
+               &states) != 6
+        || answer >= POINT_ANSWERS || (states > 0) != (fills && visited > 0))
         return false;
     struct point_answer point = plan_point(p, number);
     const struct settings *s = &point.settings;
@@ -160,6 +166,8 @@ bool note_line(const struct plan *p, const char *line)
     note(WINDOW_2, visited > 0 && to_xy && w == 2);
     note(WINDOW_3, visited > 0 && to_xy && w == 3 && v == 0);
     note(CLIPPED, visited > 0 && to_xy && w == 3 && v == 1);
+    note(TIMED, states > 0);
+    note(TIMED_UNCACHED, states > 0 && control_cd(s) == 1);
     if (visited > 0)
         note_drawing(p, &point);
     return true;
