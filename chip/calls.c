@@ -64,6 +64,17 @@ struct drawing draw(uint32_t operation, const struct settings *settings, uint32_
     return draw_slice(operation, settings, 0, v, UINT64_MAX);
 }
 
+struct fill_time time_of(uint32_t operation, const struct settings *settings)
+{
+    uint32_t number[BH_SETTINGS];
+    uint64_t out[BH_FILL_RESULTS] = { 0 };
+    list_settings(settings, number);
+    uint32_t answer =
+        bh_fill_states(MEMORY_WORDS, operation, number, BH_SETTINGS, out, BH_FILL_RESULTS);
+    struct fill_time r = { answer, out[0], out[1], out[2], out[3] };
+    return r;
+}
+
 static struct lone lone_of(uint32_t answer, const uint32_t out[BH_PIXEL_RESULTS])
 {
     struct lone r = { answer, out[0], out[1], out[2], out[3] };

@@ -3,12 +3,6 @@
 
 /* ---- The arrays of the timing examples ---- */
 
-/* Examples 13-1 to 13-3. What is drawn must show over zeros: the colour isn't printed, and the mask
-   of 13-3 isn't either. */
-#define FILL_XY                                                                                    \
-    .DADDR = 0x004400E4, .DPTCH = 0x800, .OFFSET = 0, .WSTART = 0x004900EB, .WEND = 0x005F0140,    \
-    .DYDX = 0x0014003C, .PSIZE = 4
-
 /* Example 13-6, and 13-7 to 13-9. SADDR of the latter is printed as >Q003E2E8. */
 #define PIXBLT_XY_L                                                                                \
     .SADDR = 0x003A00E6, .SPTCH = 0x800, .DADDR = 0x000030E8, .DPTCH = 0x800,                      \

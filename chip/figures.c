@@ -162,6 +162,7 @@ int main(void)
     address_figures();
     window_figures();
     drawing_figures();
+    timing_figures();
     cache_figures();
     listed_figures();
     unsigned unused = print_rules();

@@ -81,6 +81,12 @@ struct settings {
 enum { REPLACE = 0, AND = 1, XNOR = 5, OR = 8, XOR = 10, NOT_SOURCE_AND = 11, ADD = 16, ADDS = 17,
        SUB = 18, SUBS = 19, MAX = 20, MIN = 21 };
 
+/* The operands of 000's examples 13-1 to 13-3. What is drawn must show over zeros: the colour isn't
+   printed, and the mask of 13-3 isn't either. */
+#define FILL_XY                                                                                    \
+    .DADDR = 0x004400E4, .DPTCH = 0x800, .OFFSET = 0, .WSTART = 0x004900EB, .WEND = 0x005F0140,    \
+    .DYDX = 0x0014003C, .PSIZE = 4
+
 /* An XY address of two coordinates. */
 #define XY(x, y) (((uint32_t)(y) & 0xFFFF) << 16 | ((uint32_t)(x) & 0xFFFF))
 
@@ -93,6 +99,14 @@ struct drawing {
 struct drawing draw(uint32_t operation, const struct settings *settings, uint32_t v);
 struct drawing draw_slice(uint32_t operation, const struct settings *settings, uint64_t place,
                           uint32_t v, uint64_t budget);
+
+/* The time of a FILL over the memory's number of words. */
+struct fill_time {
+    uint32_t answer;
+    uint64_t setup, transfer, adjustment, states;
+};
+
+struct fill_time time_of(uint32_t operation, const struct settings *settings);
 
 struct lone {
     uint32_t answer, visited, v, request, value;
@@ -110,6 +124,7 @@ void pixel_figures(void);   /* 002 sections 7.5 to 7.9 */
 void address_figures(void); /* 003 sections 4.2 to 4.4, 004 section 5.1.4 */
 void window_figures(void);  /* 002 section 7.10 */
 void drawing_figures(void); /* 000 sections 13.3 to 13.5, 002 section 7.2 */
+void timing_figures(void);  /* 000 section 13.3 */
 void cache_figures(void);   /* 004 section 5.4 */
 void listed_figures(void);  /* what is not run */
 
