@@ -1,6 +1,7 @@
 #include "plain_call.h"
 
 #include "plain.h"
+#include "plain_states.h"
 #include "settings.h"
 
 #include <stdbool.h>
@@ -145,9 +146,24 @@ static uint32_t settings_refusal(const struct form *form, const uint32_t *s)
 
 /* ---- The call ---- */
 
-/* 16 and 17 of a part that isn't empty, or 0 after it is drawn. */
-static uint32_t draw_part(uint16_t *memory, size_t words, const struct form *form,
+/* The states of a FILL of this part, which isn't empty. */
+static uint64_t states_of(const struct plain_drawing *drawing, const struct form *form,
                           const uint32_t *s, const struct part *part)
+{
+    const struct plain_setup setup = {
+        .to_xy = form->to_xy,
+        .windowed = form->to_xy && (s[CONTROL] >> 6 & 3) != 0,
+        .start_moved = part->left != 0 || part->above != 0,
+        .end_moved = part->left + part->columns != (s[DYDX] & 0xFFFF)
+                     || part->above + part->rows != s[DYDX] >> 16,
+        .uncached = s[CONTROL] >> 15 != 0
+    };
+    return form->from == PLAIN_COLOR ? plain_states(drawing, &setup) : 0;
+}
+
+/* 16 and 17 of a part that isn't empty, or 0 after it is drawn, and then its states. */
+static uint32_t draw_part(uint16_t *memory, size_t words, const struct form *form,
+                          const uint32_t *s, const struct part *part, uint64_t *states)
 {
     uint32_t step = form->from == PLAIN_BITS ? 1 : s[PSIZE];
     struct start to = start_of(form->to_xy, s[DADDR], s[OFFSET], s[DPTCH], s[PSIZE], part);
@@ -162,6 +178,7 @@ static uint32_t draw_part(uint16_t *memory, size_t words, const struct form *for
         s[PSIZE], s[CONTROL] >> 10 & 31, s[CONTROL] >> 5 & 1, s[PMASK], s[COLOR0], s[COLOR1]
     };
     plain_draw(memory, &drawing);
+    *states = states_of(&drawing, form, s, part);
     return 0;
 }
 
@@ -175,10 +192,10 @@ struct plain_outcome plain_call(uint16_t *memory, size_t words, uint32_t draw,
     if (refusal != 0)
         return (struct plain_outcome){ .answer = refusal };
     struct part part = part_of(form, settings);
-    uint64_t pixels = (uint64_t)part.columns * part.rows;
+    uint64_t pixels = (uint64_t)part.columns * part.rows, states = 0;
     if (pixels != 0)
-        refusal = draw_part(memory, words, form, settings, &part);
+        refusal = draw_part(memory, words, form, settings, &part, &states);
     if (refusal != 0)
         return (struct plain_outcome){ .answer = refusal };
-    return (struct plain_outcome){ 0, pixels, part.v };
+    return (struct plain_outcome){ 0, pixels, part.v, states };
 }

@@ -65,7 +65,8 @@ static uint8_t *put_line(uint8_t *out, uint64_t point, const struct plain_outcom
     out = put_number(out, outcome->answer, '\t');
     out = put_number(out, outcome->visited, '\t');
     out = put_number(out, outcome->v, '\t');
-    return put_number(out, changed, '\n');
+    out = put_number(out, changed, '\t');
+    return put_number(out, outcome->states, '\n');
 }
 
 uint32_t plain_lines(const struct plain_plan *plan, uint64_t first, uint64_t count, uint16_t *image,
