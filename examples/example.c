@@ -1,4 +1,4 @@
-/* The library from C: a field read, a drawing in two slices, a plan and its listing. */
+/* The library from C: a field read, a drawing in slices and its time, a plan and its listing. */
 #include "buckethare.h"
 
 #include <stdio.h>
@@ -13,25 +13,37 @@ static void read_field(void)
     printf("field: answer %u, value %02X\n", answer, value[0]);
 }
 
-/* FILL XY clipped to a window: 53 by 15 of 60 by 20 pixels, stopped after 500 of them. */
+/* FILL XY clipped to a window: 53 by 15 of 60 by 20 pixels. SADDR SPTCH DADDR DPTCH OFFSET WSTART
+   WEND DYDX COLOR0 COLOR1 CONTROL (W 3) PSIZE PMASK. */
+static const uint32_t fill[BH_SETTINGS] = { 0, 0, 0x004400E4, 0x800, 0, 0x004900EB, 0x005F0140,
+                                            0x0014003C, 0, 0xFFFF, 0xC0, 4, 0 };
+
+/* It is stopped after 500 pixels. */
 static void fill_in_slices(void)
 {
     static uint16_t memory[11208];
-    /* SADDR SPTCH DADDR DPTCH OFFSET WSTART WEND DYDX COLOR0 COLOR1 CONTROL (W 3) PSIZE PMASK */
-    const uint32_t settings[BH_SETTINGS] = { 0, 0, 0x004400E4, 0x800, 0, 0x004900EB, 0x005F0140,
-                                             0x0014003C, 0, 0xFFFF, 0xC0, 4, 0 };
     uint64_t out[BH_DRAW_RESULTS] = { 0 };
     uint32_t answer;
     do {
-        answer = bh_draw(memory, 11208, BH_FILL_XY, settings, BH_SETTINGS, out[0], 0, 500, out,
+        answer = bh_draw(memory, 11208, BH_FILL_XY, fill, BH_SETTINGS, out[0], 0, 500, out,
                          BH_DRAW_RESULTS);
         printf("fill: answer %u, place %llu, visited %llu, V %llu, DADDR %llX\n", answer,
                (unsigned long long)out[0], (unsigned long long)out[1], (unsigned long long)out[2],
                (unsigned long long)out[5]);
     } while (answer == BH_STOPPED);
-    answer = bh_draw(memory, 11207, BH_FILL_XY, settings, BH_SETTINGS, 0, 0, 500, out,
+    answer = bh_draw(memory, 11207, BH_FILL_XY, fill, BH_SETTINGS, 0, 0, 500, out,
                      BH_DRAW_RESULTS);
     printf("fill in a memory one word shorter: answer %u\n", answer);
+}
+
+/* The same FILL: example 13-1 of source document 000. */
+static void time_fill(void)
+{
+    uint64_t out[BH_FILL_RESULTS];
+    uint32_t answer = bh_fill_states(11208, BH_FILL_XY, fill, BH_SETTINGS, out, BH_FILL_RESULTS);
+    printf("fill: answer %u, setup %llu, transfer %llu, adjustment %llu, states %llu\n", answer,
+           (unsigned long long)out[0], (unsigned long long)out[1], (unsigned long long)out[2],
+           (unsigned long long)out[3]);
 }
 
 /* The scope's plan. */
@@ -60,6 +72,7 @@ int main(void)
 {
     read_field();
     fill_in_slices();
+    time_fill();
     run_plan();
     return 0;
 }

@@ -1,4 +1,4 @@
-// The library from Rust: a field read, a drawing in two slices, a plan and its listing.
+// The library from Rust: a field read, a drawing in slices and its time, a plan and its listing.
 use std::io::Write;
 
 extern "C" {
@@ -7,6 +7,8 @@ extern "C" {
     fn bh_draw(memory: *mut u16, words: usize, operation: u32, settings: *const u32,
                settings_length: usize, place: u64, v: u32, budget: u64, out: *mut u64,
                out_length: usize) -> u32;
+    fn bh_fill_states(words: usize, operation: u32, settings: *const u32, settings_length: usize,
+                      out: *mut u64, out_length: usize) -> u32;
     fn bh_plan_read(text: *const u8, length: usize, table: *mut u64, table_length: usize,
                     out: *mut u64, out_length: usize) -> u32;
     fn bh_put_heading(out: *mut u8, out_length: usize, at: usize) -> usize;
@@ -38,15 +40,17 @@ fn read_field() {
     println!("field: answer {}, value {:02X}", answer, value[0]);
 }
 
-// FILL XY clipped to a window: 53 by 15 of 60 by 20 pixels, stopped after 500 of them.
+// FILL XY clipped to a window: 53 by 15 of 60 by 20 pixels.
+const FILL: [u32; 13] = [
+    0, 0, 0x004400E4, 0x800, 0, 0x004900EB, 0x005F0140, 0x0014003C, 0, 0xFFFF, 0xC0, 4, 0,
+];
+
+// It is stopped after 500 pixels.
 fn fill_in_slices() {
     let mut memory = vec![0u16; 11208];
-    let settings = [
-        0, 0, 0x004400E4, 0x800, 0, 0x004900EB, 0x005F0140, 0x0014003C, 0, 0xFFFF, 0xC0, 4, 0,
-    ];
     let mut place = 0;
     loop {
-        let (answer, out) = draw(&mut memory, FILL_XY, &settings, place, 0, 500);
+        let (answer, out) = draw(&mut memory, FILL_XY, &FILL, place, 0, 500);
         println!("fill: answer {}, place {}, visited {}, V {}, DADDR {:X}",
                  answer, out[0], out[1], out[2], out[5]);
         place = out[0];
@@ -54,8 +58,16 @@ fn fill_in_slices() {
             break;
         }
     }
-    let (answer, _) = draw(&mut memory[..11207], FILL_XY, &settings, 0, 0, 500);
+    let (answer, _) = draw(&mut memory[..11207], FILL_XY, &FILL, 0, 0, 500);
     println!("fill in a memory one word shorter: answer {}", answer);
+}
+
+// The same FILL: example 13-1 of source document 000.
+fn time_fill() {
+    let mut out = [0u64; 4];
+    let answer = unsafe { bh_fill_states(11208, FILL_XY, FILL.as_ptr(), 13, out.as_mut_ptr(), 4) };
+    println!("fill: answer {}, setup {}, transfer {}, adjustment {}, states {}",
+             answer, out[0], out[1], out[2], out[3]);
 }
 
 // The scope's plan.
@@ -86,5 +98,6 @@ fn run_plan() {
 fn main() {
     read_field();
     fill_in_slices();
+    time_fill();
     run_plan();
 }
