@@ -1,7 +1,8 @@
 /* A fuzz target: bytes are a memory and calls of bh_draw over it, each compared with the model.
    After each call the answer, every result, the settings, every word of the memory and the guards
    around the arrays are compared. The calls after the first go on with the place and the V that the
-   one before handed back. */
+   one before handed back. Each call is also made as a dry run, and the time of the first one's
+   drawing is compared. */
 #include "draw_bytes.h"
 #include "fuzz.h"
 
@@ -14,7 +15,8 @@
 #define NUMBERS 15
 #define OUTS 9
 
-/* A call of bh_draw, but for what its memory holds. */
+/* A call of bh_draw, but for what its memory holds. bh_outcome takes the same, and bh_fill_states
+   all but place, V and budget. */
 struct call {
     uint32_t operation;
     uint64_t words;
@@ -65,6 +67,8 @@ static void lend_otherwise(struct call *c, uint64_t how)
     case 8: c->out_length = BH_DRAW_RESULTS - 1; break;
     case 9: c->out_length = 0; break;
     case 10: c->out_length = OUTS; break;
+    case 11: c->out_length = BH_FILL_RESULTS; break;
+    case 12: c->out_length = BH_FILL_RESULTS - 1; break;
     }
 }
 
@@ -112,21 +116,33 @@ static struct settings settings_of(const uint32_t *number)
 
 /* ---- One call ---- */
 
+/* The calls of the library; the last two take no memory. */
+enum kind { DRAWING, DRY_RUN, TIME };
+
+static const char *const call_name[] = { "bh_draw", "bh_outcome", "bh_fill_states" };
+
 /* What the interface answers by 9 never gets to the model. */
-static bool is_short(const struct call *c)
+static bool is_short(const struct call *c, size_t results)
 {
     return c->operation >= OPERATIONS || c->settings_length < BH_SETTINGS
-        || c->out_length < BH_DRAW_RESULTS || c->number[10] > 65535 || c->number[11] > 65535
+        || c->out_length < results || c->number[10] > 65535 || c->number[11] > 65535
         || c->number[12] > 65535;
 }
 
-static struct result call_model(const struct call *c)
+/* 9, and no result. */
+static struct result no_result(void)
 {
     struct result r;
     r.answer = BH_SHORT;
     for (int i = 0; i < OUTS; i++)
         r.out[i] = GUARD_LONG;
-    if (is_short(c))
+    return r;
+}
+
+static struct result call_model(const struct call *c)
+{
+    struct result r = no_result();
+    if (is_short(c, BH_DRAW_RESULTS))
         return r;
     struct memory m = { theirs, c->words };
     struct settings s = settings_of(c->number);
@@ -139,19 +155,45 @@ static struct result call_model(const struct call *c)
     return r;
 }
 
+static struct result model_time(const struct call *c)
+{
+    struct result r = no_result();
+    if (is_short(c, BH_FILL_RESULTS))
+        return r;
+    struct settings s = settings_of(c->number);
+    struct fill_answer a = fill_states(c->words, (enum operation)c->operation, &s);
+    const uint64_t out[BH_FILL_RESULTS] = { a.setup, a.transfer, a.adjustment, a.states };
+    r.answer = (uint32_t)a.answer;
+    memcpy(r.out, out, sizeof out);
+    return r;
+}
+
+static uint32_t answer_of(enum kind kind, const struct call *c, uint16_t *memory,
+                          const uint32_t *settings, uint64_t *out)
+{
+    switch (kind) {
+    case DRAWING:
+        return bh_draw(memory, c->words, c->operation, settings, c->settings_length, c->place, c->v,
+                       c->budget, out, c->out_length);
+    case DRY_RUN:
+        return bh_outcome(c->words, c->operation, settings, c->settings_length, c->place, c->v,
+                          c->budget, out, c->out_length);
+    case TIME: break;
+    }
+    return bh_fill_states(c->words, c->operation, settings, c->settings_length, out, c->out_length);
+}
+
 /* The memory is lent already; *kept is cleared where the call changes a setting. */
-static struct result call_library(const struct call *c, uint16_t *memory, bool *kept)
+static struct result call_library(enum kind kind, const struct call *c, uint16_t *memory,
+                                  bool *kept)
 {
     size_t settings_bytes = c->settings_length * sizeof c->number[0];
-    struct result r;
+    struct result r = no_result();
     size_t out_bytes = c->out_length * sizeof r.out[0];
     uint32_t *settings = lend(&settings_room, settings_bytes);
     uint64_t *out = lend(&out_room, out_bytes);
     memcpy(settings, c->number, settings_bytes);
-    r.answer = bh_draw(memory, c->words, c->operation, settings, c->settings_length, c->place, c->v,
-                       c->budget, out, c->out_length);
-    for (int i = 0; i < OUTS; i++)
-        r.out[i] = GUARD_LONG;
+    r.answer = answer_of(kind, c, memory, settings, out);
     memcpy(r.out, out, out_bytes);
     *kept = memcmp(settings, c->number, settings_bytes) == 0;
     check_front(&settings_room, settings_bytes, "the settings");
@@ -179,39 +221,49 @@ static void print_call(const struct call *c)
     fprintf(stderr, "\n");
 }
 
-/* Ends the run where the two differ in anything. */
-static void compare_results(const struct call *c, const struct result *mine,
-                            const struct result *model, const uint16_t *memory, bool kept)
+/* Makes the call, and ends the run where the two differ in anything. */
+static void compare_results(enum kind kind, const struct call *c, const struct result *model,
+                            uint16_t *memory)
 {
-    if (mine->answer == model->answer && memcmp(mine->out, model->out, sizeof mine->out) == 0
+    bool kept;
+    struct result mine = call_library(kind, c, memory, &kept);
+    const char *name = call_name[kind];
+    if (mine.answer == model->answer && memcmp(mine.out, model->out, sizeof mine.out) == 0
         && memcmp(memory, theirs, c->words * sizeof *memory) == 0 && kept)
         return;
     print_call(c);
-    if (mine->answer != model->answer)
-        differs("bh_draw: answer: library %lu, model %lu", (unsigned long)mine->answer,
+    if (mine.answer != model->answer)
+        differs("%s: answer: library %lu, model %lu", name, (unsigned long)mine.answer,
                 (unsigned long)model->answer);
     for (int i = 0; i < OUTS; i++) {
-        if (mine->out[i] != model->out[i])
-            differs("bh_draw: result %d: library %llu, model %llu", i,
-                    (unsigned long long)mine->out[i], (unsigned long long)model->out[i]);
+        if (mine.out[i] != model->out[i])
+            differs("%s: result %d: library %llu, model %llu", name, i,
+                    (unsigned long long)mine.out[i], (unsigned long long)model->out[i]);
     }
     for (uint64_t i = 0; i < c->words; i++) {
         if (memory[i] != theirs[i])
-            differs("bh_draw: word %llu: library %04X, model %04X", (unsigned long long)i,
+            differs("%s: word %llu: library %04X, model %04X", name, (unsigned long long)i,
                     memory[i], theirs[i]);
     }
-    differs("bh_draw: a setting has changed");
+    differs("%s: a setting has changed", name);
 }
 
 static struct result compare_call(const struct call *c, uint16_t *memory)
 {
-    bool kept;
     memcpy(before, theirs, sizeof before);
-    struct result mine = call_library(c, memory, &kept);
     struct result model = call_model(c);
     note_answer("draw", model.answer);
-    compare_results(c, &mine, &model, memory, kept);
+    compare_results(DRAWING, c, &model, memory);
+    compare_results(DRY_RUN, c, &model, memory);
     return model;
+}
+
+/* Place, V and budget don't matter. */
+static void compare_time(const struct call *c, uint16_t *memory)
+{
+    struct result model = model_time(c);
+    memcpy(before, theirs, sizeof before);
+    compare_results(TIME, c, &model, memory);
 }
 
 /* ---- The target ---- */
@@ -219,7 +271,8 @@ static struct result compare_call(const struct call *c, uint16_t *memory)
 static bool is_dear(const struct call *c)
 {
     struct settings s = settings_of(c->number);
-    return !is_short(c) && steps_of(c->words, (enum operation)c->operation, &s) > MOST_STEPS;
+    return !is_short(c, BH_FILL_RESULTS)
+        && steps_of(c->words, (enum operation)c->operation, &s) > MOST_STEPS;
 }
 
 static uint16_t *lend_memory(struct bytes b, uint64_t words)
@@ -241,6 +294,7 @@ int LLVMFuzzerTestOneInput(const uint8_t *data, size_t size)
     if (is_dear(&c))
         return 0;
     uint16_t *memory = lend_memory(b, c.words);
+    compare_time(&c, memory);
     struct result r = compare_call(&c, memory);
     uint64_t slices = number_at(b, AT_SLICES, 1) % 8;
     for (uint64_t i = 0; i < slices; i++) {

@@ -52,7 +52,8 @@ uint64_t random_number(void);
 
 /* ---- The model's work ---- */
 
-/* At least as many pixels as the model looks at to judge a drawing over so many words. */
+/* At least as many pixels as the model looks at, some times each, to judge a drawing over so many
+   words. */
 uint64_t steps_of(uint64_t words, enum operation op, const struct settings *s);
 
 #endif
