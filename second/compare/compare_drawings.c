@@ -461,7 +461,7 @@ static void note_features(const struct draw_case *c, const struct twin *m)
     note(MANY_PIXELS, n > 65536);
 }
 
-static int size_index(uint32_t psize)
+int size_index(uint32_t psize)
 {
     int i = 0;
     while (psize > 1) {

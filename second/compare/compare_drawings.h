@@ -58,6 +58,9 @@ struct draw_result compare_draw(const struct draw_case *c, struct twin *m);
 /* The dry run alone, over any number of words: more than any memory has, too. */
 void compare_dry(const struct draw_case *c);
 
+/* 0 to 4 for the pixel sizes 1, 2, 4, 8 and 16. */
+int size_index(uint32_t psize);
+
 /* All results of a call as guards. */
 void clear_result(struct draw_result *r);
 

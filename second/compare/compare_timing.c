@@ -123,14 +123,6 @@ static int processing_of(uint32_t pp)
     return pp == 19 ? SUBTRACTS_SATURATED : SATURATES_OR_CHOOSES;
 }
 
-static int size_index(uint32_t psize)
-{
-    int i = 0;
-    while ((uint32_t)1 << i < psize)
-        i++;
-    return i;
-}
-
 void count_time(const struct draw_case *c, const struct draw_result *r)
 {
     uint32_t control = c->number[AT_CONTROL];

@@ -119,14 +119,6 @@ static struct draw_case case_of(const struct plan *p, const struct settings *s)
     return c;
 }
 
-static int size_index(uint32_t psize)
-{
-    int i = 0;
-    while ((uint32_t)1 << i < psize)
-        i++;
-    return i;
-}
-
 static void note_drawing(const struct plan *p, const struct point_answer *point)
 {
     const struct settings *s = &point->settings;
