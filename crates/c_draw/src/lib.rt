@@ -1,7 +1,7 @@
 // FILL and PIXBLT for C: `drawing::draw` and `drawing::outcome_for` on numbers and lent arrays.
 ghost use mathlib.Core.Path.{_≡_};
 ghost use lib.Seq.{sets};
-ghost use Rattle.c_draw.specs.Draw.{badDraw, drawResults, OutcomeCall, DrawCall};
+ghost use Rattle.c_draw.specs.Draw.{drawResults, OutcomeCall, DrawCall};
 use c_arrays::BAD_CALL;
 use c_arrays::flag_number;
 use drawing::Outcome;
@@ -23,7 +23,9 @@ pub fn draw(
     ensures { λ r. ⌜ DrawCall (now (memory .entry)) operation (now (settings .entry)) place v budget
         (now (out .entry)) r (now (memory .exit)) (now (out .exit)) ⌝ }
 {
-    if bad_draw(operation, settings, out) {
+    if (out.len() < DRAW_RESULTS)
+        | ((names::DRAWING_COUNT as u32 <= operation) | c_arrays::bad_settings(settings))
+    {
         return BAD_CALL;
     }
     let op = operation::operation_of(wide(operation));
@@ -46,7 +48,9 @@ pub fn outcome(
     ensures { λ r. ⌜ OutcomeCall words operation (now (settings .entry)) place v budget
         (now (out .entry)) r (now (out .exit)) ⌝ }
 {
-    if bad_draw(operation, settings, out) {
+    if (out.len() < DRAW_RESULTS)
+        | ((names::DRAWING_COUNT as u32 <= operation) | c_arrays::bad_settings(settings))
+    {
         return BAD_CALL;
     }
     let op = operation::operation_of(wide(operation));
@@ -54,14 +58,6 @@ pub fn outcome(
     let r = drawing::outcome_for(op, s, place, v != 0, budget, words);
     hand_out(out, r);
     r.answer
-}
-
-// Are the arguments bad, or is there no room for the results?
-fn bad_draw(operation: u32, settings: &[u32], out: &[u64]) -> bool
-    ensures { λ r. ⌜ r ≡ badDraw operation (now (settings .entry)) (now (out .entry)) ⌝ }
-{
-    (out.len() < DRAW_RESULTS)
-        | ((names::DRAWING_COUNT as u32 <= operation) | c_arrays::bad_settings(settings))
 }
 
 // Stores the results at the array's start.

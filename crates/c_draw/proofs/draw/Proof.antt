@@ -5,7 +5,7 @@ use Rattle.c_draw.proofs.draw.Tie as tie
 
 returns : tie.Need-returns
 returns c =
-    let e = rw (c .before .bad-draw .ensures) at (c .if1 .taken) in
+    let e = rw (c .before .bad-settings .ensures) at (c .if1 .taken) in
     record { outcome-is = record { answers = rw e; out-is = rw e }; memory-is = rw e }
 
 returns-2 : tie.Need-returns-2
@@ -19,7 +19,7 @@ returns-2 c =
     let s = t .settings-in .ensures in
     let p = o .operation-of .ensures in
     let w = o .before .wide .ensures in
-    let g = rw (i .before .bad-draw .ensures) at (i .if1 .left) in
+    let g = rw (i .before .bad-settings .ensures) at (i .if1 .left) in
     let e = d .draw .ensures in
     record {
       outcome-is = record { answers = rw (e .0, s, p, w, g); out-is = rw (h .hand-out .ensures, e .0, s, p, w, g) };
@@ -30,8 +30,8 @@ pub draw-spec : {M : Type 1} → statement M
 draw-spec =
     tie.close
     (tie.spec
-    (λ c κs. search needs)
     (λ c. search needs)
+    (λ c κs. search needs)
     returns
     (λ c κs. search needs)
     (λ c κs. search needs)

@@ -5,7 +5,7 @@ use Rattle.c_draw.proofs.outcome.Tie as tie
 
 returns : tie.Need-returns
 returns c =
-    let e = rw (c .before .bad-draw .ensures) at (c .if1 .taken) in
+    let e = rw (c .before .bad-settings .ensures) at (c .if1 .taken) in
     record { answers = rw e; out-is = rw e }
 
 returns-2 : tie.Need-returns-2
@@ -18,7 +18,7 @@ returns-2 c =
     let s = t .settings-in .ensures in
     let p = o .operation-of .ensures in
     let w = o .before .wide .ensures in
-    let g = rw (i .before .bad-draw .ensures) at (i .if1 .left) in
+    let g = rw (i .before .bad-settings .ensures) at (i .if1 .left) in
     let e = d .outcome-for .ensures in
     record { answers = rw (e, s, p, w, g); out-is = rw (h .hand-out .ensures, e, s, p, w, g) }
 
@@ -26,8 +26,8 @@ pub outcome-spec : {M : Type 1} → statement M
 outcome-spec =
     tie.close
     (tie.spec
-    (λ c κs. search needs)
     (λ c. search needs)
+    (λ c κs. search needs)
     returns
     (λ c κs. search needs)
     (λ c κs. search needs)
