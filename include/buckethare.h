@@ -34,8 +34,8 @@
    The lowest number that applies is given, but a field call checks 10, 18, 17 in that order, and in
    a plan the first bad line decides. A call that answers 9 changes nothing. With another refusal
    the results are 0, but for bh_fetch, V, the point of bh_drav, the place and the registers of
-   bh_draw, the line of bh_plan_read and the values of bh_experiment, and the memory or the cache
-   state stays. An output array that is longer than asked keeps its further elements.
+   bh_draw and bh_outcome, the line of bh_plan_read and the values of bh_experiment, and the memory
+   or the cache state stays. An output array that is longer than asked keeps its further elements.
 
    A memory is a run of 16-bit words; bit address a is bit a mod 16 of word a / 16. */
 #ifndef BUCKETHARE_H
@@ -249,7 +249,9 @@ uint32_t bh_plan_read(const uint8_t *text, size_t length, uint64_t *table, size_
 uint32_t bh_experiment(const uint64_t *table, size_t table_length, uint64_t axes, uint64_t point,
                        uint64_t *out, size_t out_length);
 
-/* No line of a listing is longer: run::LINE of the library. */
+/* A line of a listing has six numbers: the point, its answer, the pixels visited, V, the memory
+   bits that differ from the image, and the machine states of a FILL (bh_fill_states). No line is
+   longer than BH_LINE bytes: run::LINE of the library. */
 #define BH_LINE 80
 
 /* Runs `count` points from `first` on, each over the image of its SEED, and puts their lines of the
