@@ -12,7 +12,8 @@ pub fn run(memory: &mut [u16], d: Drawing, place: u64, budget: u64) -> u64
     ensures { λ r. let n = visitedFrom d place budget in
         ⌜ (r ≡ n) × (now (memory .exit) ≡ visits d place n (now (memory .entry))) ⌝ }
 {
-    let count = visited_from(d, place, budget);
+    let left = left_from(plot::pixels(d), place);
+    let count = least(budget, left);
     if count == 0 {
         return 0;
     }
@@ -20,7 +21,7 @@ pub fn run(memory: &mut [u16], d: Drawing, place: u64, budget: u64) -> u64
     count
 }
 
-// How many pixels are visited from a place on: the lesser of the budget and those that are left.
+// How many pixels that would be.
 pub fn visited_from(d: Drawing, place: u64, budget: u64) -> u64
     ensures { λ r. ⌜ r ≡ visitedFrom d place budget ⌝ }
 {
