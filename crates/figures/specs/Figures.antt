@@ -74,9 +74,9 @@ dravSettings =
       pmask = 0;
     }
 
--- FILL XY of that array through that window
-abbrev pub filling : Settings
-filling =
+-- FILL XY of that array through that window, with a CONTROL and a PMASK; under W=3
+abbrev pub fillingWith : ℕ → ℕ → Settings
+fillingWith control pmask =
     record {
       saddr = 0;
       sptch = 0;
@@ -88,10 +88,13 @@ filling =
       dydx = 0x0014003C;
       color0 = 0;
       color1 = 0;
-      control = 0xC0;
+      control = control;
       psize = 4;
-      pmask = 0;
+      pmask = pmask;
     }
+
+abbrev pub filling : Settings
+filling = fillingWith 0xC0 0
 
 pub record Figures : Type 0 where
   -- size 8 at address 12 over words F000h, 000Ah reads AFh, signed FFFFFFAFh; case F

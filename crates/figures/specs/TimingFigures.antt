@@ -12,32 +12,13 @@ use Rattle.fill_tables.specs.Tables.{Short, Medium, Long, Replace, Boolean, Add
 use Rattle.fill_tables.specs.Tables.{setupL, setupXY, uncached, transferEntry, entryTime}
 use Rattle.fill_tables.specs.Tables.{wordStates, edgeStates}
 use Rattle.fill_tables.specs.Time.{processingColumn}
-use Rattle.settings.specs.declared.Settings.{Settings}
 use Rattle.operation.specs.declared.Operation.the-variants.{FillXY}
 use Rattle.fill_timing.specs.FillTiming.{fillStates}
+use Rattle.figures.specs.Figures.{fillingWith}
 
--- the operands of the examples, with a CONTROL and a PMASK
-abbrev pub operands : ℕ → ℕ → Settings
-operands control pmask =
-    record {
-      saddr = 0;
-      sptch = 0;
-      daddr = 0x004400E4;
-      dptch = 0x800;
-      offset = 0;
-      wstart = 0x004900EB;
-      wend = 0x005F0140;
-      dydx = 0x0014003C;
-      color0 = 0;
-      color1 = 0;
-      control = control;
-      psize = 4;
-      pmask = pmask;
-    }
-
--- what the call gives for one of them
+-- what the call gives for the operands of the examples, which are the scope's figure's
 abbrev pub exampleTime : ℕ → ℕ → Time
-exampleTime control pmask = fillStates FillXY (operands control pmask) 11208 .time
+exampleTime control pmask = fillStates FillXY (fillingWith control pmask) 11208 .time
 
 pub record TimingFigures : Type 0 where
   -- table 13-5: FILL L 4; FILL XY 6, 9, 16, 12, 20; the note: add 3

@@ -16,6 +16,7 @@ use Rattle.fill_tables.specs.declared.Fill.{Fill}
 use Rattle.fill_tables.specs.Tables.{Length, Short, Medium, Long, Column, Replace, Boolean, Adding, Subs}
 use Rattle.fill_tables.specs.Tables.{setupL, setupXY, uncached, transferEntry, wordStates, edgeStates}
 use Rattle.fill_tables.specs.Time.{setupTime, wordsOf, alignmentOf, lengthOf, processingColumn, transferTime, adjustment, timeOf}
+use Rattle.fill_tables.specs.Time.{mostStates}
 
 -- ---- the tables
 setupXY-le : (a : Adjust) → setupXY a ≤ 20
@@ -222,29 +223,14 @@ module _ (start bits l : ℕ) (p : Column) (small : bits ≤ 16 * 65535) (few : 
       let q = over-le (transferEntry (lengthOf n) D .row) (n * wordStates true p) l 4 0 (65536 * 8) (e .row-le) w few in
       omega (arith, last-D (lengthOf n), q))
 
-pub states-le : (f : Fill) → f .bits ≤ 16 * 65535 → f .rows ≤ 65535 → timeOf f .states ≤ 34359214104
+pub states-le : (f : Fill) → f .bits ≤ 16 * 65535 → f .rows ≤ 65535 → timeOf f .states ≤ mostStates
 unfolding timeOf
 states-le f small few = go (f .masked) refl
   where
-    go : (m : Bool) → f .masked ≡ m → setupTime f + transferTime f - adjustment f ≤ 34359214104
+    go : (m : Bool) → f .masked ≡ m → setupTime f + transferTime f - adjustment f ≤ mostStates
     go true e =
         let q = masked-under (f .start) (f .bits) (f .rows) (processingColumn (f .pp)) small few in
         rw e (omega (arith, setupTime-le f, q))
     go false e =
         let q = plain-under (f .start) (f .bits) (f .rows) (processingColumn (f .pp)) small few (alignmentOf (f .start) (f .bits)) in
         rw e (omega (arith, setupTime-le f, q))
-
--- and one FILL has that time
-states-reached : timeOf (record {
-  xy = true;
-  adjust = Both;
-  disabled = true;
-  pp = 19;
-  masked = true;
-  start = 15;
-  bits = 16 * 65535;
-  rows = 65535;
-}) .states
-    ≡ 34359214104
-unfolding timeOf alignmentOf
-states-reached = refl

@@ -35,7 +35,7 @@ alignmentOf start bits =
     (cond (trailingAligned start bits) A B)
     (cond (trailingAligned start bits) C D)
 
--- short: one word; medium: two words; long: at least three words
+-- short: one word (none, of a row without bits); medium: two words; long: at least three words
 abbrev pub lengthOf : ℕ → Length
 lengthOf n = cond (leb n 1) Short (cond (eqb n 2) Medium Long)
 
@@ -65,3 +65,7 @@ timeOf f =
       adjustment = adjustment f;
       states = setupTime f + transferTime f - adjustment f;
     }
+
+-- the greatest time: 65,535 rows of 65,536 words, both edges of each misaligned, under a mask
+abbrev pub mostStates : ℕ
+mostStates = 34359214104

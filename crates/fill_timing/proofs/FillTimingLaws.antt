@@ -11,7 +11,7 @@ use lib.Dec.{eqb}
 use Rattle.memory.proofs.Tests.{or-false-right}
 use Rattle.pixel.proofs.SizeLaws.{size-le}
 use Rattle.fill_tables.specs.declared.Time.{Time}
-use Rattle.fill_tables.specs.Time.{timeOf}
+use Rattle.fill_tables.specs.Time.{timeOf, mostStates}
 use Rattle.fill_tables.proofs.TimeLaws.{states-le}
 use Rattle.settings.specs.declared.Settings.{Settings}
 use Rattle.operation.specs.declared.Operation.{Operation}
@@ -49,11 +49,7 @@ module _ (op : Operation) (s : Settings) where
   accepted-of-visited k v b words n =
       by-cases (ℕ-discrete (refusal op s k words) 0) (λ e. e) (λ e. absurd (n (rw (outcome-refused op s k v b words e) refl)))
 
-  -- 65,535 rows of 65,535 pixels of 16 bits take no more
-  abbrev pub most : ℕ
-  most = 34359214104
-
-  filled-le : (k words : ℕ) → s .dydx < 2 ^ 32 → refusal op s k words ≡ 0 → timeOf (fillOf op s) .states ≤ most
+  filled-le : (k words : ℕ) → s .dydx < 2 ^ 32 → refusal op s k words ≡ 0 → timeOf (fillOf op s) .states ≤ mostStates
   unfolding fillOf drawingOf
   filled-le k words h e =
       let size = size-le (s .psize) (passes op s k words e .size) in
@@ -68,11 +64,11 @@ module _ (op : Operation) (s : Settings) where
 
   -- the states of a call, whole or not, refused or not
   pub fillTime-le : (k : ℕ) (v : Bool) (b words : ℕ) → s .dydx < 2 ^ 32
-      → fillTime op s (outcome op s k v b words .visited) .states ≤ most
+      → fillTime op s (outcome op s k v b words .visited) .states ≤ mostStates
   unfolding fillTime
   fillTime-le k v b words h =
       let n = outcome op s k v b words .visited in
-      cond-le (copies (sourceOf op) || eqb n 0) noTime (timeOf (fillOf op s)) most (omega arith)
+      cond-le (copies (sourceOf op) || eqb n 0) noTime (timeOf (fillOf op s)) mostStates (omega arith)
       (λ e. filled-le k words h (accepted-of-visited k v b words (some n (or-false-right (copies (sourceOf op)) (eqb n 0) e))))
     where
       some : (n : ℕ) → eqb n 0 ≡ false → n ≢ 0

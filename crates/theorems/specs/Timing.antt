@@ -6,7 +6,7 @@ use mathlib.Core.Logic.{_≢_}
 use Prim.Native.Nat.{ℕ, _+_, _*_, _/_, _≤_, _<_}
 use lib.ListN.{length}
 use Rattle.fill_tables.specs.declared.Fill.{Fill}
-use Rattle.fill_tables.specs.Time.{wordsOf, alignmentOf, timeOf}
+use Rattle.fill_tables.specs.Time.{wordsOf, alignmentOf, timeOf, mostStates}
 use Rattle.walk.specs.Walk.{addressAt}
 use Rattle.settings.specs.declared.Settings.{Settings}
 use Rattle.settings.specs.Settings.{settingsOf}
@@ -80,9 +80,6 @@ StatesSome =
     → (ranOver op s m .states ≡ timeOf (fillOf op s) .states) × (0 < ranOver op s m .states)
 
 -- It has at most eleven digits: no FILL takes more states than 65,535 rows of 65,536 words would.
-abbrev pub mostStates : ℕ
-mostStates = 34359214104
-
 abbrev pub StatesFit : Type 0
 StatesFit =
     (words draw : ℕ) (axes : List Axis) (n : ℕ)
