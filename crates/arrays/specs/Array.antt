@@ -1,10 +1,12 @@
--- The arrays of a drawing after the window (the scope, "Arrays, windows and slices"): what is
--- drawn, and both walks. Assumes nothing.
-use mathlib.Core.Bool.{Bool, cond}
+-- The arrays of a drawing after the window (the scope, "Arrays, windows and slices"; request
+-- Eight): what is drawn, and both walks. Assumes nothing.
+use mathlib.Core.Bool.{Bool, cond, _&&_}
 use Prim.Native.Nat.{ℕ, _+_, _/_, _%_, _^_}
 use Rattle.control.specs.Control.{transparency, windowing, processing}
+use Rattle.control.specs.Control.{rightToLeft, bottomToTop}
 use Rattle.walk.specs.declared.Walk.{Walk}
 use Rattle.walk.specs.Walk.{addressAt, startAt}
+use Rattle.corner.specs.Corner.{turned, fromCorner}
 use Rattle.address.specs.Coordinate.{xOf, yOf}
 use Rattle.address.specs.Address.{xyAddress}
 use Rattle.windows.specs.Window.{windowOf, clipped, vUnder, unclipped}
@@ -15,7 +17,7 @@ use Rattle.plot.specs.declared.Source.{Source}
 use Rattle.plot.specs.declared.Source.the-variants.{Color, Pixels, Bits}
 use Rattle.plot.specs.declared.Drawing.{Drawing}
 use Rattle.operation.specs.declared.Operation.{Operation}
-use Rattle.operation.specs.Operation.{toXY, fromXY, sourceOf}
+use Rattle.operation.specs.Operation.{toXY, fromXY, walksToCorner, sourceOf, copiesPixels}
 
 -- the destination rectangle X to X+DX-1, Y to Y+DY-1; DX and DY are unsigned
 abbrev pub rectangleOf : Settings → Rectangle
@@ -49,7 +51,7 @@ startX xy c = xOf xy + c .left
 abbrev pub startY : ℕ → Clipped → ℕ
 startY xy c = yOf xy + c .above
 
--- where the destination's walk starts
+-- the upper left start of what is drawn of the destination
 unfoldable pub destStart : Operation → Settings → Clipped → ℕ
 destStart op s c =
     cond (toXY op)
@@ -67,13 +69,37 @@ abbrev pub linearSource : Operation → Settings → Walk
 linearSource op s =
     record { start = s .saddr; pitch = s .sptch; step = stepOf (sourceOf op) (s .psize) }
 
--- where the source's walk starts: a linear start moves by the same columns and rows, a B source by
--- bits and SPTCH
+-- the upper left start of its source: a linear start moves by the same columns and rows, a B source
+-- by bits and SPTCH
 unfoldable pub srcStart : Operation → Settings → Clipped → ℕ
 srcStart op s c =
     cond (fromXY op)
     (xyAddress (s .offset) (s .sptch) (s .psize) (startX (s .saddr) c) (startY (s .saddr) c))
     (addressAt (linearSource op s) (c .above) (c .left))
+
+-- PBH=1 walks each row from its right end, PBV=1 walks rows from the last one up; B sources and
+-- FILL ignore both bits (request Eight)
+abbrev pub fromRight : Operation → Settings → Bool
+fromRight op s = copiesPixels (sourceOf op) && rightToLeft (s .control)
+
+abbrev pub fromBottom : Operation → Settings → Bool
+fromBottom op s = copiesPixels (sourceOf op) && bottomToTop (s .control)
+
+-- an array's walk in the chosen order. For L,L the given start is the chosen corner's pixel itself;
+-- for L,XY, XY,L and XY,XY the model walks to the corner linearly from the clipped array's upper
+-- left start
+unfoldable pub chosenWalk : Operation → Settings → Clipped → Walk → Walk
+chosenWalk op s c w =
+    let pbh = fromRight op s in
+    let pbv = fromBottom op s in
+    cond (walksToCorner op) (fromCorner pbh pbv (c .cols) (c .rows) w) (turned pbh pbv w)
+
+-- the two arrays' walks from their upper left starts
+abbrev pub destWalk : Operation → Settings → Clipped → Walk
+destWalk op s c = record { start = destStart op s c; pitch = s .dptch; step = s .psize }
+
+abbrev pub srcWalk : Operation → Settings → Clipped → Walk
+srcWalk op s c = startAt (linearSource op s) (srcStart op s c)
 
 -- the drawing; the low 16 bits of the colours count
 unfoldable pub drawingOf : Operation → Settings → Clipped → Drawing
@@ -81,9 +107,9 @@ drawingOf op s c =
     record {
       cols = c .cols;
       rows = c .rows;
-      dest = record { start = destStart op s c; pitch = s .dptch; step = s .psize };
+      dest = chosenWalk op s c (destWalk op s c);
       source = sourceOf op;
-      src = startAt (linearSource op s) (srcStart op s c);
+      src = chosenWalk op s c (srcWalk op s c);
       psize = s .psize;
       pp = processing (s .control);
       t = transparency (s .control);

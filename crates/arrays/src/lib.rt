@@ -1,7 +1,8 @@
 // The arrays of a drawing after the window: what is drawn, and both walks.
 ghost use mathlib.Core.Path.{_≡_};
 ghost use Rattle.arrays.specs.Array.{rectangleOf, clippedArray, vAfter, startX, startY};
-ghost use Rattle.arrays.specs.Array.{destStart, stepOf, linearSource, srcStart, drawingOf};
+ghost use Rattle.arrays.specs.Array.{destStart, stepOf, linearSource, srcStart};
+ghost use Rattle.arrays.specs.Array.{chosenWalk, destWalk, srcWalk, drawingOf};
 use address::HALF;
 use operation::Operation;
 use plot::Drawing;
@@ -67,7 +68,7 @@ pub fn start_y(xy: u32, c: Clipped) -> u32
     address::y_of(xy) as u32 + c.above as u32
 }
 
-// Where the destination's walk starts.
+// The upper left start of what is drawn of the destination.
 fn dest_start(op: Operation, s: Settings, c: Clipped) -> u32
     ensures { λ r. ⌜ r ≡ destStart op s c ⌝ }
 {
@@ -79,7 +80,7 @@ fn dest_start(op: Operation, s: Settings, c: Clipped) -> u32
     s.daddr
 }
 
-// Where the source's walk starts.
+// The upper left start of its source.
 fn src_start(op: Operation, s: Settings, c: Clipped) -> u32
     ensures { λ r. ⌜ r ≡ srcStart op s c ⌝ }
 {
@@ -114,30 +115,59 @@ fn step_of(source: Source, psize: u16) -> u32
     }
 }
 
+// An array's walk in the chosen order: PBH and PBV count for PIXBLTs of pixels.
+fn chosen_walk(op: Operation, s: Settings, c: Clipped, w: Walk) -> Walk
+    ensures { λ r. ⌜ r ≡ chosenWalk op s c w ⌝ }
+{
+    let pixels = operation::copies_pixels(operation::source_of(op));
+    let right = control::right_to_left(s.control);
+    let bottom = control::bottom_to_top(s.control);
+    if operation::walks_to_corner(op) {
+        return corner::from_corner(pixels & right, pixels & bottom, c.cols, c.rows, w);
+    }
+    corner::turned(pixels & right, pixels & bottom, w)
+}
+
+// The destination's walk from its upper left start.
+fn dest_walk(op: Operation, s: Settings, c: Clipped) -> Walk
+    ensures { λ r. ⌜ r ≡ destWalk op s c ⌝ }
+{
+    let start = dest_start(op, s, c);
+    Walk {
+        start,
+        pitch: s.dptch,
+        step: s.psize as u32,
+    }
+}
+
+// The source's.
+fn src_walk(op: Operation, s: Settings, c: Clipped) -> Walk
+    ensures { λ r. ⌜ r ≡ srcWalk op s c ⌝ }
+{
+    let start = src_start(op, s, c);
+    let linear = linear_source(op, s);
+    Walk {
+        start,
+        pitch: linear.pitch,
+        step: linear.step,
+    }
+}
+
 // The drawing.
 pub fn drawing_of(op: Operation, s: Settings, c: Clipped) -> Drawing
     ensures { λ r. ⌜ r ≡ drawingOf op s c ⌝ }
 {
     let source = operation::source_of(op);
-    let to = dest_start(op, s, c);
-    let from = src_start(op, s, c);
-    let linear = linear_source(op, s);
+    let dest = chosen_walk(op, s, c, dest_walk(op, s, c));
+    let src = chosen_walk(op, s, c, src_walk(op, s, c));
     let pp = control::processing(s.control);
     let t = control::transparency(s.control);
     Drawing {
         cols: c.cols,
         rows: c.rows,
-        dest: Walk {
-            start: to,
-            pitch: s.dptch,
-            step: s.psize as u32,
-        },
+        dest,
         source,
-        src: Walk {
-            start: from,
-            pitch: linear.pitch,
-            step: linear.step,
-        },
+        src,
         psize: s.psize,
         pp,
         t,

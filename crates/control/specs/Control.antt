@@ -1,7 +1,7 @@
 -- The layout of CONTROL, which has 16 bits: T bit 5, W bits 6-7, PBH bit 8, PBV bit 9, PP bits
 -- 10-14, CD bit 15 (the scope, "Refusal numbers", "One pixel", "Arrays, windows and slices" and
 -- "Cache"). Assumes nothing.
-use mathlib.Core.Bool.{Bool, _||_}
+use mathlib.Core.Bool.{Bool}
 use Prim.Native.Nat.{ℕ, _/_, _%_, _^_}
 use lib.Dec.{eqb, ltb}
 
@@ -20,7 +20,7 @@ transparency control = bit 5 control
 abbrev pub windowing : ℕ → ℕ
 windowing control = bits 6 2 control
 
--- PBH: bit 8; PBV: bit 9
+-- PBH: bit 8, each row from its right end; PBV: bit 9, rows from the last one up
 abbrev pub rightToLeft : ℕ → Bool
 rightToLeft control = bit 8 control
 
@@ -38,7 +38,6 @@ lastOperation = 21
 abbrev pub disabled : ℕ → Bool
 disabled control = bit 15 control
 
--- refusal 12: PP is above 21, or PBH or PBV is 1
+-- refusal 12: PP is above 21 (request Eight)
 abbrev pub badControl : ℕ → Bool
-badControl control =
-    ltb lastOperation (processing control) || (rightToLeft control || bottomToTop control)
+badControl control = ltb lastOperation (processing control)

@@ -20,14 +20,14 @@ pub fn windowing(control: u16) -> u16
     (control >> 6) % 4
 }
 
-// PBH: does a row start at its right end?
+// PBH: is a row walked from its right end?
 pub fn right_to_left(control: u16) -> bool
     ensures { λ r. ⌜ r ≡ rightToLeft control ⌝ }
 {
     (control >> 8) % 2 == 1
 }
 
-// PBV: do the rows start at the last one?
+// PBV: are the rows walked from the last one up?
 pub fn bottom_to_top(control: u16) -> bool
     ensures { λ r. ⌜ r ≡ bottomToTop control ⌝ }
 {
@@ -48,10 +48,9 @@ pub fn disabled(control: u16) -> bool
     (control >> 15) % 2 == 1
 }
 
-// Refusal 12: is PP above 21, or PBH or PBV 1?
+// Refusal 12: is PP above 21?
 pub fn bad_control(control: u16) -> bool
     ensures { λ r. ⌜ r ≡ badControl control ⌝ }
 {
-    let none = LAST_OPERATION < processing(control);
-    none | (right_to_left(control) | bottom_to_top(control))
+    LAST_OPERATION < processing(control)
 }

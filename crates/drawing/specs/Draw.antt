@@ -49,7 +49,8 @@ commonOf s = common (rectangleOf s) (windowOf (s .wstart) (s .wend))
 abbrev pub doneSome : Drawing → ℕ → Bool
 doneSome d place = eqb place (pixels d) && not (eqb (pixels d) 0)
 
--- an array's linear start plus its rows times the pitch, modulo 2^32: the row after its last
+-- the row after the last one walked, in the chosen corner's column: the walk's start plus its rows
+-- times the pitch as it is walked, modulo 2^32 (request Eight: the row above if PBV=1)
 abbrev pub rowAfter : Walk → ℕ → ℕ
 rowAfter w rows = addressAt w rows 0
 

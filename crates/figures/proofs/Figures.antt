@@ -16,7 +16,7 @@ use Rattle.extent.specs.Extent.{reaches, leavesMemory}
 use Rattle.refusal.specs.Refusal.{lowest}
 use Rattle.lone.specs.Lone.{xyDestination}
 use Rattle.drav.specs.Drav.{dravOf}
-use Rattle.arrays.specs.Array.{clippedArray, vAfter, destStart, srcStart, drawingOf}
+use Rattle.arrays.specs.Array.{clippedArray, vAfter, destStart, srcStart, chosenWalk, drawingOf}
 use Rattle.array_refusal.specs.Refusal.{refusalOf}
 use Rattle.array_refusal.specs.Refusal as drawing
 use Rattle.drawing.specs.Draw.{outcomeAt, outcome}
@@ -27,8 +27,8 @@ use Rattle.figures.specs.Figures.{Figures}
 pub figures : Figures
 unfolding bitOf bitAt bitsNumber meant fieldRefusal register fieldRead caseOf stepped any first anyPair badState latest lookup fetched
     pixelOperations processed pixelOf result pixelAfter withPixel wordAfter xyAddress badXYPitch common clipped addressAt addressOf
-    reaches leavesMemory lowest xyDestination dravOf clippedArray vAfter vUnder destStart srcStart drawingOf refusalOf drawing.refusal
-    outcomeAt outcome axisLength count indices
+    reaches leavesMemory lowest xyDestination dravOf clippedArray vAfter vUnder destStart srcStart chosenWalk drawingOf refusalOf
+    drawing.refusal outcomeAt outcome axisLength count indices
 figures =
     record {
       field = refl;

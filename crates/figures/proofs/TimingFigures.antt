@@ -7,7 +7,7 @@ use Rattle.windows.specs.Window.{common, clipped, vUnder}
 use Rattle.walk.specs.Walk.{addressAt, addressOf}
 use Rattle.extent.specs.Extent.{reaches, leavesMemory}
 use Rattle.refusal.specs.Refusal.{lowest}
-use Rattle.arrays.specs.Array.{clippedArray, vAfter, destStart, srcStart, drawingOf}
+use Rattle.arrays.specs.Array.{clippedArray, vAfter, destStart, srcStart, chosenWalk, drawingOf}
 use Rattle.array_refusal.specs.Refusal.{refusalOf, refusal}
 use Rattle.drawing.specs.Draw.{outcomeAt, outcome}
 use Rattle.fill_timing.specs.FillTiming.{adjustOf, fillOf, fillTime, fillStates}
@@ -15,7 +15,7 @@ use Rattle.figures.specs.TimingFigures.{TimingFigures}
 
 pub timing-figures : TimingFigures
 unfolding alignmentOf timeOf xyAddress badXYPitch common clipped vUnder addressAt addressOf reaches leavesMemory lowest clippedArray
-    vAfter destStart srcStart drawingOf refusalOf refusal outcomeAt outcome adjustOf fillOf fillTime fillStates
+    vAfter destStart srcStart chosenWalk drawingOf refusalOf refusal outcomeAt outcome adjustOf fillOf fillTime fillStates
 timing-figures =
     record {
       setup-l = refl;

@@ -41,6 +41,18 @@ fromXY PixbltXYXY = true
 fromXY PixbltBL = false
 fromXY PixbltBXY = false
 
+-- the model walks to the chosen corner: L,XY, XY,L and XY,XY (for L,L the caller gives it; request
+-- Eight)
+abbrev pub walksToCorner : Operation → Bool
+walksToCorner FillL = false
+walksToCorner FillXY = false
+walksToCorner PixbltLL = false
+walksToCorner PixbltLXY = true
+walksToCorner PixbltXYL = true
+walksToCorner PixbltXYXY = true
+walksToCorner PixbltBL = false
+walksToCorner PixbltBXY = false
+
 -- what it draws from
 abbrev pub sourceOf : Operation → Source
 sourceOf FillL = Color

@@ -1,7 +1,7 @@
 // The eight drawings: where they draw to and what they draw from.
 ghost use mathlib.Core.Path.{_≡_};
 ghost use Rattle.operation.specs.Operation.{operationOf, toXY, fromXY, sourceOf};
-ghost use Rattle.operation.specs.Operation.{copies, copiesPixels};
+ghost use Rattle.operation.specs.Operation.{walksToCorner, copies, copiesPixels};
 use plot::Source;
 
 // The eight drawings, in the scope's order.
@@ -57,6 +57,22 @@ pub fn from_xy(op: Operation) -> bool
         Operation::FillXY => false,
         Operation::PixbltLL => false,
         Operation::PixbltLXY => false,
+        Operation::PixbltXYL => true,
+        Operation::PixbltXYXY => true,
+        Operation::PixbltBL => false,
+        Operation::PixbltBXY => false,
+    }
+}
+
+// Does the model walk to the chosen corner?
+pub fn walks_to_corner(op: Operation) -> bool
+    ensures { λ r. ⌜ r ≡ walksToCorner op ⌝ }
+{
+    match op {
+        Operation::FillL => false,
+        Operation::FillXY => false,
+        Operation::PixbltLL => false,
+        Operation::PixbltLXY => true,
         Operation::PixbltXYL => true,
         Operation::PixbltXYXY => true,
         Operation::PixbltBL => false,

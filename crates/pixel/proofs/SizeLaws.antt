@@ -2,7 +2,7 @@
 -- No contract cites this file. Assumes nothing.
 use mathlib.Core.Path.{_≡_, refl, sym, ap, subst}
 use mathlib.Core.Bool.{Bool, true, false, _||_}
-use Prim.Native.Nat.{ℕ, _+_, _-_, _%_, _^_, _≤_}
+use Prim.Native.Nat.{ℕ, _+_, _-_, _%_, _^_, _≤_, _<_}
 use native.Mathlib.Nat.{min-eq-left}
 use native.Mathlib.Omega.{arith}
 use borrow.Author.Tests.{eqb-true, not-false}
@@ -23,6 +23,9 @@ by-size Q q1 q2 q4 q8 q16 p e =
 
 pub size-le : (p : ℕ) → badPixelSize p ≡ false → p ≤ 16
 size-le = by-size (λ p. p ≤ 16) (omega arith) (omega arith) (omega arith) (omega arith) (omega arith)
+
+pub size-pos : (p : ℕ) → badPixelSize p ≡ false → 0 < p
+size-pos = by-size (λ p. 0 < p) (omega arith) (omega arith) (omega arith) (omega arith) (omega arith)
 
 -- a pixel whose address is a multiple of its size lies in one word
 pub aligned-fits : (p : ℕ) → badPixelSize p ≡ false → (a : ℕ) → a % p ≡ 0 → a % 16 + p ≤ 16

@@ -12,7 +12,7 @@ use Rattle.extent.specs.Extent.{reaches, leavesMemory}
 use Rattle.settings.specs.Settings.{settingsOf}
 use Rattle.row.specs.Row.{sourceAt, drawnAt}
 use Rattle.engine.specs.Engine.{visits}
-use Rattle.arrays.specs.Array.{clippedArray, vAfter, destStart, srcStart, drawingOf}
+use Rattle.arrays.specs.Array.{clippedArray, vAfter, destStart, srcStart, chosenWalk, drawingOf}
 use Rattle.refusal.specs.Refusal.{lowest}
 use Rattle.array_refusal.specs.Refusal.{refusalOf, refusal}
 use Rattle.drawing.specs.Draw.{outcomeAt, outcome, drawn}
@@ -28,7 +28,7 @@ use Rattle.run.specs.Example.{Example}
 pub example : Example
 unfolding bitOf bitAt differing changedBits stepped pixelOperations processed pixelOf result pixelAfter withPixel wordAfter plotted
     xyAddress badXYPitch common clipped addressAt addressOf reaches leavesMemory settingsOf sourceAt drawnAt visits clippedArray vAfter
-    vUnder destStart srcStart drawingOf lowest refusalOf refusal outcomeAt outcome drawn
+    vUnder destStart srcStart chosenWalk drawingOf lowest refusalOf refusal outcomeAt outcome drawn
     alignmentOf timeOf adjustOf fillOf fillTime axisLength valueAt count indices assigned
     experiment digits numbersLine ranOver pointLine pointLines
 example = refl

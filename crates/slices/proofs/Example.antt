@@ -18,7 +18,7 @@ use Rattle.engine.specs.Engine.{visits}
 use Rattle.engine.specs.Footprint.{pixel-bit, source-bit}
 use Rattle.operation.specs.declared.Operation.the-variants.{FillXY, PixbltLL}
 use Rattle.operation.specs.Operation.{copies, copiesPixels}
-use Rattle.arrays.specs.Array.{clippedArray, vAfter, destStart, srcStart, drawingOf}
+use Rattle.arrays.specs.Array.{clippedArray, vAfter, destStart, srcStart, chosenWalk, drawingOf}
 use Rattle.refusal.specs.Refusal.{lowest}
 use Rattle.array_refusal.specs.Refusal.{refusalOf, refusal}
 use Rattle.drawing.specs.Draw.{outcomeAt, outcome, drawn}
@@ -74,7 +74,7 @@ copy =
 
 -- ---- their bits
 fill-writes : (a : ℕ) → Writes fill a → a < 12
-unfolding drawingOf clippedArray clipped common destStart xyAddress addressAt addressOf
+unfolding drawingOf chosenWalk clippedArray clipped common destStart xyAddress addressAt addressOf
 fill-writes a (i, h, t) = let z : a < (0 + i / 3 * 16 + i % 3 * 4) % 2 ^ 32 + 4 = t .to in omega arith
 
 fill-reads : (a : ℕ) → Reads fill a → ⊥
@@ -83,11 +83,11 @@ fill-reads a (i, h, pixel-bit t) = false≢true (ap copiesPixels (t .pixel))
 fill-reads a (i, h, source-bit t) = false≢true (ap copies (t .bits))
 
 copy-writes : (a : ℕ) → Writes copy a → 12 ≤ a
-unfolding drawingOf clippedArray destStart addressAt addressOf
+unfolding drawingOf chosenWalk clippedArray destStart addressAt addressOf
 copy-writes a (i, h, t) = let z : (12 + i / 2 * 16 + i % 2 * 4) % 2 ^ 32 ≤ a = t .from in omega arith
 
 copy-reads : (a : ℕ) → Reads copy a → 32 ≤ a
-unfolding drawingOf clippedArray srcStart addressAt addressOf
+unfolding drawingOf chosenWalk clippedArray srcStart addressAt addressOf
 copy-reads a (i, h, pixel-bit t) = let z : (32 + i / 2 * 16 + i % 2 * 4) % 2 ^ 32 ≤ a = t .from in omega arith
 copy-reads a (i, h, source-bit t) = absurd (true≢false (ap copiesPixels (t .bits)))
 
@@ -121,15 +121,15 @@ computed : (afterCalls fill copy false true m cs .memory ≡ 49151 ∷ 10 ∷ 17
     ≡ record { answer = 0; place = 3; v = true; request = false; saddr = 0; daddr = 16; dydx = 65540; settings = fill .settings })
     × (afterCalls fill copy false true m cs .held 1
     ≡ record { answer = 0; place = 2; v = true; request = false; saddr = 48; daddr = 28; dydx = 65538; settings = copy .settings })
-unfolding run next outcome outcomeAt drawn refusal refusalOf lowest vAfter vUnder drawingOf clippedArray destStart srcStart clipped
-    common xyAddress badXYPitch leavesMemory reaches addressAt addressOf visits drawnAt sourceAt plotted wordAfter withPixel
+unfolding run next outcome outcomeAt drawn refusal refusalOf lowest vAfter vUnder drawingOf chosenWalk clippedArray destStart srcStart
+    clipped common xyAddress badXYPitch leavesMemory reaches addressAt addressOf visits drawnAt sourceAt plotted wordAfter withPixel
     pixelAfter result processed pixelOperations pixelOf
 computed = (refl, refl, refl)
 
 applied : OneThenOther 0 1 fill copy false true 3 9 m (afterCalls fill copy false true m cs)
     × OneThenOther 1 0 copy fill true false 9 3 m (afterCalls fill copy false true m cs)
-unfolding refusal refusalOf lowest drawingOf clippedArray destStart srcStart clipped common xyAddress badXYPitch leavesMemory
-    reaches addressAt addressOf
+unfolding refusal refusalOf lowest drawingOf chosenWalk clippedArray destStart srcStart clipped common xyAddress badXYPitch
+    leavesMemory reaches addressAt addressOf
 applied =
     demand3 3 m good fill copy refl refl apart false true cs
     (omega arith, (omega arith, ((λ z. omega arith), (omega arith, (omega arith, (omega arith, (omega arith, tt)))))))

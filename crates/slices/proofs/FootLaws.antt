@@ -7,13 +7,16 @@ use native.Mathlib.Omega.{arith}
 use borrow.Author.Tests.{eqb-true, ne-eqb, not-false}
 use Rattle.memory.proofs.Tests.{or-false-left, or-false-right}
 use Rattle.pixel.specs.Pixel.{badPixelSize}
-use Rattle.pixel.proofs.SizeLaws.{by-size}
+use Rattle.pixel.proofs.SizeLaws.{by-size, aligned-fits}
 use Rattle.address.specs.Address.{misaligned}
 use Rattle.walk.specs.declared.Walk.{Walk}
 use Rattle.walk.specs.Walk.{addressOf}
 use Rattle.walk.proofs.Arithmetic.{multiple-of-16}
 use Rattle.address.proofs.AddressLaws.{multiple-of-badXYPitch, multiple-of-badLinearPitch}
-use Rattle.walk.proofs.WalkLaws.{addressOf-room}
+use Rattle.walk.proofs.WalkLaws.{addressOf-multiple}
+use Rattle.corner.specs.Corner.{walked}
+use Rattle.corner.proofs.CornerLaws.{walked-multiple}
+use Rattle.extent.specs.Extent.{leavesMemory}
 use Rattle.extent.proofs.ExtentLaws.{lt-of-leavesMemory}
 use Rattle.settings.specs.declared.Settings.{Settings}
 use Rattle.plot.specs.declared.Source.{Source}
@@ -23,8 +26,10 @@ use Rattle.engine.specs.Engine.{destOf, srcOf, visit}
 use Rattle.engine.specs.Footprint.{PixelWrites, PixelReads}
 use Rattle.engine.proofs.FootprintLaws.{memory-visit, visit-frame, visit-depend}
 use Rattle.operation.specs.declared.Operation.{Operation}
-use Rattle.operation.specs.Operation.{toXY, fromXY, sourceOf, copiesPixels}
-use Rattle.arrays.specs.Array.{clippedArray, stepOf, drawingOf, drawingFor}
+use Rattle.operation.specs.Operation.{toXY, fromXY, sourceOf, copies, copiesPixels}
+use Rattle.windows.specs.declared.Clipped.{Clipped}
+use Rattle.arrays.specs.Array.{clippedArray, stepOf, fromRight, fromBottom, chosenWalk, destWalk, srcWalk, drawingOf, drawingFor}
+use Rattle.arrays.proofs.ArrayLaws.{chosenWalk-pitch, chosenWalk-step}
 use Rattle.array_refusal.specs.Refusal.{badPitch, badDest, badSource, negativeStart}
 use Rattle.array_refusal.proofs.RefusalLaws.{Passes, passes}
 use Rattle.interleave.proofs.FootprintLaws.{Foot}
@@ -41,18 +46,35 @@ pub multiple-of-badPitch : (xy : Bool) (pitch : ℕ) → badPitch xy pitch ≡ f
 multiple-of-badPitch true pitch e = multiple-of-badXYPitch pitch e
 multiple-of-badPitch false pitch e = multiple-of-badLinearPitch pitch e
 
--- with a start at a multiple of the pixel size, each pixel of a walk lies within one word
-walk-room : (p : ℕ) → badPixelSize p ≡ false → (w : Walk) (cols i : ℕ) → w .step ≡ p → misaligned p (w .start) ≡ false → w .pitch % 16 ≡ 0
-    → addressOf w cols i % 16 + p ≤ 16
-walk-room p e w cols i hw h hp = room p e hw (eqb-true (w .start % p) 0 (not-false _ h))
-  where
-    at : (k : ℕ) → k ≤ 4 → w .step ≡ 2 ^ k → w .start % 2 ^ k ≡ 0 → addressOf w cols i % 16 + 2 ^ k ≤ 16
-    at k hk hw hs = addressOf-room k w cols i hk hw hs (multiple-of-16 k (w .pitch) hk hp)
+-- a pixel size is a multiple of itself, walked the other way too
+walked-size : (falls : Bool) (p : ℕ) → badPixelSize p ≡ false → walked falls p % p ≡ 0
+walked-size falls =
+    by-size (λ p. walked falls p % p ≡ 0)
+    (walked-multiple falls 0 1 (omega arith) refl) (walked-multiple falls 1 2 (omega arith) refl)
+    (walked-multiple falls 2 4 (omega arith) refl) (walked-multiple falls 3 8 (omega arith) refl)
+    (walked-multiple falls 4 16 (omega arith) refl)
 
-    room : (p : ℕ) → badPixelSize p ≡ false → w .step ≡ p → w .start % p ≡ 0 → addressOf w cols i % 16 + p ≤ 16
-    room =
-        by-size (λ p. w .step ≡ p → w .start % p ≡ 0 → addressOf w cols i % 16 + p ≤ 16)
+-- with a start and a step that are multiples of the pixel size, and a pitch that is one of 16, each pixel's address is one
+walk-multiple : (p : ℕ) → badPixelSize p ≡ false → (w : Walk) (cols i : ℕ) → misaligned p (w .start) ≡ false → w .pitch % 16 ≡ 0
+    → w .step % p ≡ 0 → addressOf w cols i % p ≡ 0
+walk-multiple p e w cols i h hp hw = sized p e (eqb-true (w .start % p) 0 (not-false _ h)) hw
+  where
+    at : (k : ℕ) → k ≤ 4 → w .start % 2 ^ k ≡ 0 → w .step % 2 ^ k ≡ 0 → addressOf w cols i % 2 ^ k ≡ 0
+    at k hk hs hw = addressOf-multiple k w cols i hk hs (multiple-of-16 k (w .pitch) hk hp) hw
+
+    sized : (p : ℕ) → badPixelSize p ≡ false → w .start % p ≡ 0 → w .step % p ≡ 0 → addressOf w cols i % p ≡ 0
+    sized =
+        by-size (λ p. w .start % p ≡ 0 → w .step % p ≡ 0 → addressOf w cols i % p ≡ 0)
         (at 0 (omega arith)) (at 1 (omega arith)) (at 2 (omega arith)) (at 3 (omega arith)) (at 4 (omega arith))
+
+-- the same of an array of pixels in the chosen order
+chosen-multiple : (op : Operation) (s : Settings) (c : Clipped) (w : Walk) (cols i : ℕ) → badPixelSize (s .psize) ≡ false
+    → misaligned (s .psize) (chosenWalk op s c w .start) ≡ false → w .pitch % 16 ≡ 0 → w .step ≡ s .psize
+    → addressOf (chosenWalk op s c w) cols i % s .psize ≡ 0
+chosen-multiple op s c w cols i e h hp hw =
+    walk-multiple (s .psize) e (chosenWalk op s c w) cols i h
+    (rw (chosenWalk-pitch op s c w) (walked-multiple (fromBottom op s) 4 (w .pitch) (omega arith) hp))
+    (rw (chosenWalk-step op s c w, hw) (walked-size (fromRight op s) (s .psize) e))
 
 -- ---- the pixels of a drawing that is not refused
 module _ (op : Operation) (s : Settings) (k w : ℕ) (p : Passes op s k w) (i : ℕ) (h : i < pixels (drawingFor op s)) where
@@ -66,30 +88,53 @@ module _ (op : Operation) (s : Settings) (k w : ℕ) (p : Passes op s k w) (i : 
   pub starts : (badTo || badFrom) ≡ false
   starts = and-false _ _ (ap not (ne-eqb (pixels (drawingFor op s)) 0 (omega arith))) (p .start)
 
-  dest-inside : destOf (drawingFor op s) i < 16 * w
+  pub dest-inside : destOf (drawingFor op s) i < 16 * w
   dest-inside = lt-of-leavesMemory w _ _ _ (p .memory) (or-false-left _ _ (p .end)) i h
+
+  pub dest-multiple : destOf (drawingFor op s) i % s .psize ≡ 0
+  unfolding drawingOf
+  dest-multiple =
+      chosen-multiple op s (clippedArray op s) (destWalk op s (clippedArray op s)) (clippedArray op s .cols) i (p .size)
+      (or-false-right (toXY op && negativeStart (s .daddr) (clippedArray op s)) _ (or-false-left badTo badFrom starts))
+      (multiple-of-badPitch (toXY op) (s .dptch) (or-false-left _ _ (p .pitch))) refl
 
   dest-fits : destOf (drawingFor op s) i % 16 + drawingFor op s .psize ≤ 16
   unfolding drawingOf
-  dest-fits =
-      walk-room (s .psize) (p .size) (drawingFor op s .dest) (clippedArray op s .cols) i refl
-      (or-false-right (toXY op && negativeStart (s .daddr) (clippedArray op s)) _ (or-false-left badTo badFrom starts))
-      (multiple-of-badPitch (toXY op) (s .dptch) (or-false-left _ _ (p .pitch)))
+  dest-fits = aligned-fits (s .psize) (p .size) (destOf (drawingFor op s) i) dest-multiple
 
-  src-fits : drawingFor op s .source ≡ Pixels → srcOf (drawingFor op s) i % 16 + drawingFor op s .psize ≤ 16
+  -- of a source of pixels
+  module _ (e : sourceOf op ≡ Pixels) where
+    copied : copiesPixels (sourceOf op) ≡ true
+    copied = ap copiesPixels e
+
+    pub src-inside : srcOf (drawingFor op s) i < 16 * w
+    src-inside =
+        lt-of-leavesMemory w _ _ _ (p .memory) (and-false _ _ (ap copies e) (or-false-right (leavesMemory w _ _ _) _ (p .end))) i h
+
+    pub src-multiple : srcOf (drawingFor op s) i % s .psize ≡ 0
+    unfolding drawingOf
+    src-multiple =
+        chosen-multiple op s (clippedArray op s) (srcWalk op s (clippedArray op s)) (clippedArray op s .cols) i (p .size)
+        (or-false-right (fromXY op && negativeStart (s .saddr) (clippedArray op s)) _
+        (and-false _ _ copied (or-false-right badTo badFrom starts)))
+        (multiple-of-badPitch (fromXY op) (s .sptch)
+        (and-false _ _ copied (or-false-right (badPitch (toXY op) (s .dptch)) _ (p .pitch))))
+        (ap (λ (k : Source). stepOf k (s .psize)) e)
+
+    src-fits : srcOf (drawingFor op s) i % 16 + drawingFor op s .psize ≤ 16
+    unfolding drawingOf
+    src-fits = aligned-fits (s .psize) (p .size) (srcOf (drawingFor op s) i) src-multiple
+
+  whole : drawingFor op s .source ≡ Pixels → srcOf (drawingFor op s) i % 16 + drawingFor op s .psize ≤ 16
   unfolding drawingOf
-  src-fits e =
-      let c : copiesPixels (sourceOf op) ≡ true = ap copiesPixels e in
-      walk-room (s .psize) (p .size) (drawingFor op s .src) (clippedArray op s .cols) i (ap (λ (k : Source). stepOf k (s .psize)) e)
-      (or-false-right (fromXY op && negativeStart (s .saddr) (clippedArray op s)) _ (and-false _ _ c (or-false-right badTo badFrom starts)))
-      (multiple-of-badPitch (fromXY op) (s .sptch) (and-false _ _ c (or-false-right (badPitch (toXY op) (s .dptch)) _ (p .pitch))))
+  whole e = src-fits e
 
   pixel-foot : Foot w (PixelWrites (drawingFor op s) i) (PixelReads (drawingFor op s) i) (visit (drawingFor op s) i)
   pixel-foot =
       record {
         good = λ m g. memory-visit w (drawingFor op s) i g;
         frame = λ m g a. visit-frame w (drawingFor op s) i dest-inside dest-fits g a;
-        depend = λ m m′ g g′ e. visit-depend w (drawingFor op s) i dest-inside dest-fits src-fits g g′ e;
+        depend = λ m m′ g g′ e. visit-depend w (drawingFor op s) i dest-inside dest-fits whole g g′ e;
       }
 
 pub foot : (w : ℕ) (j : Job) (i : ℕ) → Accepted w j → i < pixelsOf j

@@ -18,7 +18,7 @@ pub kept-is-visited : KeptIsVisited
 kept-is-visited op s = (place.visited-kept op s, place.kept-visited op s)
 
 pub pixel-places : PixelPlaces
-pixel-places op s k words e i h = (place.dest-place op s k words e i h, place.src-place op s k words e i h)
+pixel-places op s k words ne e i h = (place.dest-place op s k words ne e i h, place.src-place op s k words ne e i h)
 
 pub of-arrays : OfArrays
 of-arrays =

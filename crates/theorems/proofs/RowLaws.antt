@@ -1,6 +1,6 @@
 -- The rows of an accepted drawing: where they start in their words, and that each one rises without a wrap. Assumes nothing.
 use mathlib.Core.Path.{_≡_, refl, sym, ap, _∙_}
-use mathlib.Core.Bool.{false, _&&_, _||_}
+use mathlib.Core.Bool.{Bool, false, _&&_, _||_}
 use Prim.Native.Nat.{ℕ, zero, suc, _+_, _-_, _*_, _/_, _%_, _^_, _≤_, _<_}
 use native.Mathlib.Nat.{zero-mul, one-mul, mul-comm, add-mul, mul-add, mul-sub, mul-assoc, mul-left-comm, mul-le-mul, div-add-mod}
 use native.Mathlib.Numerals.{add-one}
@@ -21,7 +21,10 @@ use Rattle.settings.specs.declared.Settings.{Settings}
 use Rattle.plot.specs.Drawing.{pixels}
 use Rattle.operation.specs.declared.Operation.{Operation}
 use Rattle.operation.specs.Operation.{toXY}
-use Rattle.arrays.specs.Array.{clippedArray, destStart, drawingOf, drawingFor}
+use Rattle.corner.specs.Corner.{walked}
+use Rattle.corner.proofs.CornerLaws.{walked-multiple}
+use Rattle.arrays.specs.Array.{clippedArray, fromRight, fromBottom, destWalk, drawingOf, drawingFor}
+use Rattle.arrays.proofs.ArrayLaws.{chosenWalk-pitch, chosenWalk-step}
 use Rattle.array_refusal.specs.Refusal.{negativeStart}
 use Rattle.array_refusal.proofs.RefusalLaws.{Passes}
 use Rattle.slices.proofs.FootLaws.{multiple-of-badPitch, badTo, badFrom, starts}
@@ -57,11 +60,15 @@ module _ (op : Operation) (s : Settings) (k w : ℕ) (p : Passes op s k w) where
   pub row-alike : (row : ℕ) → pixelAt op s row 0 % 16 ≡ drawingFor op s .dest .start % 16
   unfolding addressAt drawingOf
   row-alike row =
+      let w = drawingFor op s .dest in
       let m = multiple-of-badPitch (toXY op) (s .dptch) (or-false-left _ _ (p .pitch)) in
-      mod-pow-mod 4 32 _ (omega arith)
-      ∙ omega (arith, zero-mul (s .psize), start-alike (destStart op s (clippedArray op s)) row (s .dptch) m)
+      let t : w .pitch % 16 ≡ 0 =
+      rw (chosenWalk-pitch op s (clippedArray op s) (destWalk op s (clippedArray op s)))
+      (walked-multiple (fromBottom op s) 4 (s .dptch) (omega arith) m)
+      in
+      mod-pow-mod 4 32 _ (omega arith) ∙ omega (arith, zero-mul (w .step), start-alike (w .start) row (w .pitch) t)
 
-  module _ (some : 0 < cols) (row : ℕ) (below : row < rows) where
+  module _ (straight : fromRight op s ≡ false) (some : 0 < cols) (row : ℕ) (below : row < rows) where
     -- the pixels of the row lie in the memory
     inside : (c : ℕ) → c < cols → pixelAt op s row c < 16 * w
     unfolding drawingOf
@@ -69,6 +76,12 @@ module _ (op : Operation) (s : Settings) (k w : ℕ) (p : Passes op s k w) where
         rw (← addressOf-at (drawingFor op s .dest) cols row c h)
         (lt-of-leavesMemory w (drawingFor op s .dest) cols rows (p .memory) (or-false-left _ _ (p .end)) (row * cols + c)
         (rw (mul-comm cols rows) (digits-lt below h)))
+
+    -- its pixels are PSIZE apart
+    step-size : drawingFor op s .dest .step ≡ s .psize
+    unfolding drawingOf
+    step-size =
+        chosenWalk-step op s (clippedArray op s) (destWalk op s (clippedArray op s)) ∙ ap (λ (t : Bool). walked t (s .psize)) straight
 
     -- so that it rises from pixel to pixel
     rises : (c : ℕ) → c < cols → pixelAt op s row c ≡ pixelAt op s row 0 + c * s .psize
@@ -79,7 +92,7 @@ module _ (op : Operation) (s : Settings) (k w : ℕ) (p : Passes op s k w) where
         let size = size-le (s .psize) (p .size) in
         let here = inside c (omega arith) in
         let next = addressAt-across (drawingFor op s .dest) row c in
-        rw (← add-one c) (omega (arith, next, here, rises c (omega arith), add-mul c 1 (s .psize), one-mul (s .psize)))
+        rw (← add-one c) (omega (arith, next, step-size, here, rises c (omega arith), add-mul c 1 (s .psize), one-mul (s .psize)))
 
     -- the start of the drawing is a multiple of the pixel size, and so is that of the row
     start-placed : drawingFor op s .dest .start % s .psize ≡ 0

@@ -37,9 +37,9 @@ rows-alike op s place words e row =
 
 pub row-words : RowWords
 unfolding fillOf drawingOf
-row-words op s place words e some row below =
+row-words op s place words e straight some row below =
     let p = passes op s place words e in
-    (words-within op s place words p some row below, words-holding op s place words p some row below)
+    (words-within op s place words p straight some row below, words-holding op s place words p straight some row below)
 
 pub time-adds-up : TimeAddsUp
 unfolding timeOf

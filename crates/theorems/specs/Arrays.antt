@@ -2,7 +2,7 @@
 -- proofs/Arrays.antt. Assumes nothing.
 use mathlib.Core.Path.{_≡_}
 use mathlib.Core.Bool.{Bool, false, cond}
-use mathlib.Core.Logic.{_↔_}
+use mathlib.Core.Logic.{_≢_, _↔_}
 use Prim.Native.Nat.{ℕ, _+_, _*_, _/_, _%_, _^_, _≤_, _<_}
 use Rattle.memory.specs.Bits.{noMemory}
 use Rattle.address.specs.Coordinate.{coordinate, xOf, yOf, registerOf}
@@ -10,13 +10,16 @@ use Rattle.address.specs.Address.{xyAddress}
 use Rattle.windows.specs.Kept.{InRectangle, kept}
 use Rattle.walk.specs.declared.Walk.{Walk}
 use Rattle.walk.specs.Walk.{addressAt, addressOf}
+use Rattle.corner.specs.Corner.{chosenIndex}
 use Rattle.extent.specs.Extent.{leavesMemory}
 use Rattle.settings.specs.declared.Settings.{Settings}
 use Rattle.plot.specs.Drawing.{pixels}
 use Rattle.engine.specs.Engine.{destOf, srcOf}
 use Rattle.operation.specs.declared.Operation.{Operation}
+use Rattle.operation.specs.declared.Operation.the-variants.{PixbltLL}
 use Rattle.operation.specs.Operation.{toXY, fromXY}
-use Rattle.arrays.specs.Array.{rectangleOf, clippedArray, linearSource, drawingFor}
+use Rattle.arrays.specs.Array.{rectangleOf, clippedArray, linearSource, fromRight, fromBottom}
+use Rattle.arrays.specs.Array.{drawingFor}
 use Rattle.array_refusal.specs.Refusal.{refusal}
 
 -- ---- coordinates
@@ -49,13 +52,17 @@ WalkInside =
 -- ---- the pixels of a drawing, by columns and rows of the array that its
 -- settings give, before the window
 
--- the column and the row of pixel i: those that clipping skips, and its own
--- in what is drawn, row by row
+-- the column and the row of pixel i: those that clipping skips, and its own in what is drawn, row
+-- by row in the chosen order
 abbrev pub columnOf : Operation → Settings → ℕ → ℕ
-columnOf op s i = clippedArray op s .left + i % clippedArray op s .cols
+columnOf op s i =
+    let c = clippedArray op s in
+    c .left + chosenIndex (fromRight op s) (c .cols) (i % c .cols)
 
 abbrev pub rowOf : Operation → Settings → ℕ → ℕ
-rowOf op s i = clippedArray op s .above + i / clippedArray op s .cols
+rowOf op s i =
+    let c = clippedArray op s in
+    c .above + chosenIndex (fromBottom op s) (c .rows) (i / c .cols)
 
 -- the address so many columns and rows from an array's start: of an XY array that of its own X and
 -- Y, else as the pitch and the step say
@@ -81,12 +88,14 @@ KeptIsVisited =
     → (i : ℕ) × (i < pixels (drawingFor op s))
     × (x ≡ xOf (s .daddr) + columnOf op s i) × (y ≡ yOf (s .daddr) + rowOf op s i))
 
--- Each pixel of a drawing that is not refused, clipped or not, lies at the address of its own X and
--- Y if the destination is XY, and its source lies as many columns and rows from the source's start
--- as it does from the destination's. (A FILL takes no notice of the second.)
+-- Each pixel of a drawing that is not refused, clipped or not, from whichever corner, lies at the
+-- address of its own X and Y if the destination is XY, and its source lies as many columns and rows
+-- from the source's start as it does from the destination's. (A FILL takes no notice of the second.
+-- The starts of an L,L are its corner's pixels: Corners.antt, StartGiven and ChosenOrder.)
 abbrev pub PixelPlaces : Type 0
 PixelPlaces =
-    (op : Operation) (s : Settings) (place words : ℕ) → refusal op s place words ≡ 0
+    (op : Operation) (s : Settings) (place words : ℕ)
+    → op ≢ PixbltLL → refusal op s place words ≡ 0
     → (i : ℕ) → i < pixels (drawingFor op s)
     → (destOf (drawingFor op s) i
     ≡ placeAt (toXY op) (s .offset) (destination s) (columnOf op s i) (rowOf op s i))

@@ -12,7 +12,7 @@ use Rattle.settings.specs.declared.Settings.{Settings}
 use Rattle.settings.specs.Settings.{settingsOf}
 use Rattle.operation.specs.declared.Operation.{Operation}
 use Rattle.operation.specs.Operation.{operationOf, sourceOf, copies}
-use Rattle.arrays.specs.Array.{drawingFor}
+use Rattle.arrays.specs.Array.{fromRight, drawingFor}
 use Rattle.array_refusal.specs.Refusal.{refusal}
 use Rattle.fill_timing.specs.FillTiming.{fillOf, fillStates}
 use Rattle.points.specs.Axes.{Axis}
@@ -31,7 +31,8 @@ wordHolding op s row column = pixelAt op s row column / 16
 abbrev pub wordsPerRow : Operation → Settings → ℕ
 wordsPerRow op s = wordsOf (fillOf op s .start) (fillOf op s .bits)
 
--- Every row of an accepted FILL, at any pixel size, has the alignment that its time goes by.
+-- Every row of an accepted FILL, at any pixel size, has the alignment that its time goes by. (Of a
+-- PIXBLT too, at the end that its rows are walked from.)
 abbrev pub RowsAlike : Type 0
 RowsAlike =
     (op : Operation) (s : Settings) (place words : ℕ) → refusal op s place words ≡ 0 → (row : ℕ)
@@ -39,11 +40,12 @@ RowsAlike =
     ≡ alignmentOf (fillOf op s .start) (fillOf op s .bits)
 
 -- Exactly N words hold a pixel of a row of it, at any pixel size: each of its pixels lies in one of
--- the N words from the row's first one on, and each of these holds one.
+-- the N words from the row's first one on, and each of these holds one. (No FILL is walked from the
+-- right: B sources and FILL ignore PBH.)
 abbrev pub RowWords : Type 0
 RowWords =
     (op : Operation) (s : Settings) (place words : ℕ) → refusal op s place words ≡ 0
-    → 0 < drawingFor op s .cols → (row : ℕ) → row < drawingFor op s .rows
+    → fromRight op s ≡ false → 0 < drawingFor op s .cols → (row : ℕ) → row < drawingFor op s .rows
     → let first = wordHolding op s row 0 in
     ((column : ℕ) → column < drawingFor op s .cols
     → (first ≤ wordHolding op s row column)

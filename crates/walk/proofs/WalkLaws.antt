@@ -1,12 +1,24 @@
 -- Walks: moved walks, the address by row and column, one step on, alignment. No contract cites this file. Assumes nothing.
 use mathlib.Core.Path.{_≡_, sym, ap, ap₂, _∙_}
-use Prim.Native.Nat.{ℕ, _+_, _*_, _/_, _%_, _^_, _≤_, _<_}
-use native.Mathlib.Nat.{add-zero, add-mul, one-mul, div-add-mod', mod-lt, zero-div, zero-mod}
+use Prim.Native.Nat.{ℕ, suc, _+_, _*_, _/_, _%_, _^_, _≤_, _<_}
+use native.Mathlib.Nat.{add-zero, add-mul, zero-mul, one-mul, mul-comm, div-add-mod', mod-lt, zero-div, zero-mod}
+use native.Mathlib.Nat.{pos-of-ne-zero, div-lt-iff-lt-mul}
 use native.Mathlib.Omega.{arith}
 use lib.Arith.{digits-div, digits-mod}
 use Rattle.walk.specs.declared.Walk.{Walk}
 use Rattle.walk.specs.Walk.{addressAt, addressOf, startAt, moved}
-use Rattle.walk.proofs.Arithmetic.{mod-pow-mod, mod-pow-room, multiple-sum}
+use Rattle.walk.proofs.Arithmetic.{mod-pow-mod, residue-sum}
+
+-- ---- the column and the row of pixel i of an array
+module _ (cols rows i : ℕ) (h : i < cols * rows) where
+  pub cols-some : 0 < cols
+  cols-some = pos-of-ne-zero (λ z. omega (arith, ap (λ (c : ℕ). c * rows) z, zero-mul rows))
+
+  pub column-lt : i % cols < cols
+  column-lt = mod-lt i cols-some
+
+  pub row-lt : i / cols < rows
+  row-lt = div-lt-iff-lt-mul cols-some .1 (rw mul-comm h)
 
 -- ---- cols pixels on: the same column of the next row
 module _ (cols : ℕ) where
@@ -31,13 +43,17 @@ module _ (w : Walk) where
   addressAt-parts r c = omega arith
 
   -- the next row, and the next column
-  addressAt-down : (r c : ℕ) → (addressAt w r c + w .pitch) % 2 ^ 32 ≡ addressAt w (r + 1) c
+  pub addressAt-down : (r c : ℕ) → (addressAt w r c + w .pitch) % 2 ^ 32 ≡ addressAt w (r + 1) c
   unfolding addressAt
   addressAt-down r c = omega (arith, add-mul r 1 (w .pitch), one-mul (w .pitch))
 
   pub addressAt-across : (r c : ℕ) → (addressAt w r c + w .step) % 2 ^ 32 ≡ addressAt w r (c + 1)
   unfolding addressAt
   addressAt-across r c = omega (arith, add-mul c 1 (w .step), one-mul (w .step))
+
+  along-one : (a : ℕ) → addressAt (startAt w a) 0 1 ≡ (a + w .step) % 2 ^ 32
+  unfolding addressAt
+  along-one a = omega (arith, zero-mul (w .pitch), one-mul (w .step))
 
   -- rows and columns on from a row and a column
   pub addressAt-moved : (r c r′ c′ : ℕ) → addressAt (moved w r c) r′ c′ ≡ addressAt w (r + r′) (c + c′)
@@ -64,22 +80,24 @@ module _ (w : Walk) where
         back : (r c : ℕ) → addressAt (moved w r c) 0 j ≡ addressAt w r (c + j)
         back r c = addressAt-moved r c 0 j ∙ ap (λ (x : ℕ). addressAt w x (c + j)) (add-zero r)
 
+    -- the next pixel of a row
+    pub addressOf-across : (i : ℕ) → suc (i % cols) < cols → addressOf w cols (i + 1) ≡ (addressOf w cols i + w .step) % 2 ^ 32
+    addressOf-across i h = addressOf-along i 1 (omega arith) ∙ along-one (addressOf w cols i)
+
     -- cols pixels on
     pub addressOf-down : (i : ℕ) → 0 < cols → addressOf w cols (i + cols) ≡ (addressOf w cols i + w .pitch) % 2 ^ 32
     unfolding addressOf
     addressOf-down i h = rw (next-div cols i h, next-mod cols i h) (sym (addressAt-down (i / cols) (i % cols)))
 
--- ---- alignment: pixels of 2^k bits, with a start and a pitch that are multiples of 2^k
-module _ (k : ℕ) (w : Walk) (cols i : ℕ) (small : k ≤ 4)
-    (hw : w .step ≡ 2 ^ k) (hs : w .start % 2 ^ k ≡ 0) (hp : w .pitch % 2 ^ k ≡ 0) where
-  -- each address is a multiple of 2^k
-  addressOf-multiple : addressOf w cols i % 2 ^ k ≡ 0
-  unfolding addressOf addressAt
-  addressOf-multiple =
-      mod-pow-mod k 32 _ (omega arith)
-      ∙ ap (λ (s : ℕ). (w .start + i / cols * w .pitch + i % cols * s) % 2 ^ k) hw
-      ∙ multiple-sum (2 ^ k) (w .start) (i / cols) (w .pitch) (i % cols) hs hp
+-- ---- alignment: with a pitch and a step that are multiples of 2^k each address has the start's residue
+pub addressAt-residue : (k : ℕ) (w : Walk) (r c : ℕ) → k ≤ 4 → w .pitch % 2 ^ k ≡ 0 → w .step % 2 ^ k ≡ 0
+    → addressAt w r c % 2 ^ k ≡ w .start % 2 ^ k
+unfolding addressAt
+addressAt-residue k w r c small hp hw =
+    mod-pow-mod k 32 _ (omega arith) ∙ residue-sum (2 ^ k) (w .start) r (w .pitch) c (w .step) hp hw
 
-  -- each pixel lies within one word
-  pub addressOf-room : addressOf w cols i % 16 + 2 ^ k ≤ 16
-  addressOf-room = mod-pow-room k 4 (addressOf w cols i) small addressOf-multiple
+-- and is a multiple where the start is
+pub addressOf-multiple : (k : ℕ) (w : Walk) (cols i : ℕ) → k ≤ 4
+    → w .start % 2 ^ k ≡ 0 → w .pitch % 2 ^ k ≡ 0 → w .step % 2 ^ k ≡ 0 → addressOf w cols i % 2 ^ k ≡ 0
+unfolding addressOf
+addressOf-multiple k w cols i small hs hp hw = addressAt-residue k w (i / cols) (i % cols) small hp hw ∙ hs

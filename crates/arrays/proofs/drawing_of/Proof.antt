@@ -7,19 +7,18 @@ use Rattle.arrays.proofs.drawing_of.Tie as tie
 returns : tie.Need-returns
 unfolding drawingOf
 returns c =
-    let known = c .before .before in
-    let t = known .before in
+    let t = c .before .before in
     let pp = t .before in
-    let linear = pp .before in
-    let from = linear .before in
-    let to = from .before in
+    let src = pp .before in
+    let dest = src .before .before in
     rw (
       t .transparency .ensures,
       pp .processing .ensures,
-      linear .linear-source .ensures,
-      from .src-start .ensures,
-      to .dest-start .ensures,
-      to .before .source-of .ensures,
+      src .chosen-walk2 .ensures,
+      src .before .src-walk .ensures,
+      dest .chosen-walk .ensures,
+      dest .before .dest-walk .ensures,
+      dest .before .before .source-of .ensures,
     )
 
 pub drawing-of-spec : {M : Type 1} → statement M
@@ -32,7 +31,7 @@ drawing-of-spec =
     (λ c κs. search needs)
     (λ c κs. search needs)
     (λ c κs. search needs)
-    (λ c. search needs)
+    (λ c κs. search needs)
     (λ c. search needs)
     (λ c. search needs)
     returns)

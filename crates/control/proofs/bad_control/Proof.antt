@@ -4,7 +4,7 @@ use Rattle.control.proofs.bad_control.Statement.{statement}
 use Rattle.control.proofs.bad_control.Tie as tie
 
 returns : tie.Need-returns
-returns c = rw (c .bottom-to-top .ensures, c .before .right-to-left .ensures, c .before .before .processing .ensures)
+returns c = rw (c .processing .ensures)
 
 pub bad-control-spec : {M : Type 1} → statement M
-bad-control-spec = tie.close (tie.spec (λ c κs. search needs) (λ c κs. search needs) (λ c κs. search needs) returns)
+bad-control-spec = tie.close (tie.spec (λ c κs. search needs) returns)
