@@ -8,6 +8,9 @@ pub mod PlaceLaws
 pub mod Arrays
 pub mod SeenLaws
 pub mod Windows
+pub mod CornerLaws
+pub mod Corners
+pub mod Copies
 pub mod Refused
 pub mod Slices
 pub mod Names

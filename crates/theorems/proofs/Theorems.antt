@@ -5,6 +5,8 @@ use Rattle.theorems.proofs.Cache.{of-cache}
 use Rattle.theorems.proofs.Pixels.{of-pixels}
 use Rattle.theorems.proofs.Arrays.{of-arrays}
 use Rattle.theorems.proofs.Windows.{of-windows}
+use Rattle.theorems.proofs.Corners.{of-corners}
+use Rattle.theorems.proofs.Copies.{of-copies}
 use Rattle.theorems.proofs.Refused.{of-refusals}
 use Rattle.theorems.proofs.Slices.{of-slices}
 use Rattle.theorems.proofs.Names.{of-names}
@@ -21,6 +23,8 @@ theorems =
       pixels = of-pixels;
       arrays = of-arrays;
       windows = of-windows;
+      corners = of-corners;
+      copies = of-copies;
       refusals = of-refusals;
       slices = of-slices;
       names = of-names;

@@ -3,6 +3,8 @@ pub mod Cache
 pub mod Pixels
 pub mod Arrays
 pub mod Windows
+pub mod Corners
+pub mod Copies
 pub mod Refused
 pub mod Slices
 pub mod Names

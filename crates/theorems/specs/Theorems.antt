@@ -6,6 +6,8 @@ use Rattle.theorems.specs.Cache.{OfCache}
 use Rattle.theorems.specs.Pixels.{OfPixels}
 use Rattle.theorems.specs.Arrays.{OfArrays}
 use Rattle.theorems.specs.Windows.{OfWindows}
+use Rattle.theorems.specs.Corners.{OfCorners}
+use Rattle.theorems.specs.Copies.{OfCopies}
 use Rattle.theorems.specs.Refused.{OfRefusals}
 use Rattle.theorems.specs.Slices.{OfSlices}
 use Rattle.theorems.specs.Names.{OfNames}
@@ -20,6 +22,8 @@ pub record Theorems : Type 0 where
   pub pixels : OfPixels
   pub arrays : OfArrays
   pub windows : OfWindows
+  pub corners : OfCorners
+  pub copies : OfCopies
   pub refusals : OfRefusals
   pub slices : OfSlices
   pub names : OfNames

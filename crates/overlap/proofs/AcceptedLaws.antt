@@ -1,0 +1,103 @@
+-- An accepted PIXBLT of pixels over itself: by its pixels, in order, and by its settings. No contract cites this file. Assumes
+-- nothing.
+use mathlib.Core.Path.{_≡_, sym, ap, ap₂, subst, _∙_}
+use mathlib.Core.Bool.{Bool, true, false, _&&_}
+use mathlib.Core.List.{List}
+use mathlib.Core.Logic.{_⊎_, ⊎-elim}
+use Prim.Native.Nat.{ℕ, _-_, _*_, _^_, _≤_, min}
+use native.Mathlib.Omega.{arith}
+use Rattle.memory.specs.Bits.{Memory}
+use Rattle.memory.proofs.Tests.{sized}
+use Rattle.control.specs.Control.{rightToLeft, bottomToTop}
+use Rattle.corner.specs.Corner.{walked}
+use Rattle.settings.specs.declared.Settings.{Settings}
+use Rattle.plot.specs.declared.Source.{Source}
+use Rattle.plot.specs.declared.Source.the-variants.{Pixels}
+use Rattle.plot.specs.Drawing.{pixels}
+use Rattle.engine.specs.Engine.{visits}
+use Rattle.operation.specs.declared.Operation.{Operation}
+use Rattle.operation.specs.Operation.{sourceOf, copiesPixels}
+use Rattle.arrays.specs.Array.{clippedArray, stepOf, fromRight, fromBottom, destWalk, srcWalk, drawingOf, drawingFor}
+use Rattle.arrays.proofs.ArrayLaws.{chosenWalk-pitch, chosenWalk-step}
+use Rattle.array_refusal.specs.Refusal.{refusal}
+use Rattle.array_refusal.proofs.RefusalLaws.{Passes, passes}
+use Rattle.drawing.specs.Draw.{drawn}
+use Rattle.drawing.proofs.OutcomeLaws.{drawn-accepted}
+use Rattle.slices.proofs.FootLaws.{dest-inside, dest-multiple, src-inside, src-multiple}
+use Rattle.overlap.specs.Copy.{PlainCopy, OldSource, Unspoilt, RisesBelow, FallsAbove}
+use Rattle.overlap.specs.Scroll.{Scroll, ToLower, ToHigher}
+use Rattle.overlap.proofs.CopyLaws.{copied}
+use Rattle.overlap.proofs.OrderLaws.{unspoilt-of-rises, unspoilt-of-falls}
+use Rattle.overlap.proofs.ScrollLaws.{rises-of, falls-of}
+
+module _ (w : ℕ) (m : List ℕ) (g : Memory w m) (op : Operation) (s : Settings) (e : refusal op s 0 w ≡ 0)
+    (plain : PlainCopy (drawingFor op s)) where
+  accepted : Passes op s 0 w
+  accepted = passes op s 0 w e
+
+  pixelSource : sourceOf op ≡ Pixels
+  unfolding drawingOf
+  pixelSource = plain .source
+
+  module _ (b : ℕ) (whole : pixels (drawingFor op s) ≤ b) where
+    all-visited : drawn op s 0 b m ≡ visits (drawingFor op s) 0 (pixels (drawingFor op s)) m
+    all-visited =
+        let n : min b (pixels (drawingFor op s) - 0) ≡ pixels (drawingFor op s) = omega arith in
+        drawn-accepted op s 0 b m (ap (refusal op s 0) (g .size) ∙ e) ∙ ap (λ (c : ℕ). visits (drawingFor op s) 0 c m) n
+
+    pub copy-unspoilt : Unspoilt (drawingFor op s) → OldSource (drawingFor op s) m (drawn op s 0 b m)
+    unfolding drawingOf
+    copy-unspoilt clean =
+        subst (OldSource (drawingFor op s) m) (sym all-visited)
+        (copied w (drawingFor op s) (dest-inside op s 0 w accepted) (accepted .size) (dest-multiple op s 0 w accepted)
+        (λ i h. src-multiple op s 0 w accepted i h pixelSource) plain clean g)
+
+    pub copy-in-order : RisesBelow (drawingFor op s) ⊎ FallsAbove (drawingFor op s) → OldSource (drawingFor op s) m (drawn op s 0 b m)
+    copy-in-order h = copy-unspoilt (⊎-elim (unspoilt-of-rises (drawingFor op s)) (unspoilt-of-falls (drawingFor op s)) h)
+
+    -- ---- by settings
+    module _ (scroll : Scroll op s) where
+      -- both walks have one pitch and one step, as they are walked
+      record Alike (falls : Bool) : Type 0 where
+        to-pitch : drawingFor op s .dest .pitch ≡ walked falls (s .dptch)
+        from-pitch : drawingFor op s .src .pitch ≡ walked falls (s .dptch)
+        to-step : drawingFor op s .dest .step ≡ walked falls (s .psize)
+        from-step : drawingFor op s .src .step ≡ walked falls (s .psize)
+
+      chosen : (bit falls : Bool) → bit ≡ falls → (copiesPixels (sourceOf op) && bit) ≡ falls
+      chosen bit falls h = rw (ap copiesPixels pixelSource) h
+
+      alike : (falls : Bool) → rightToLeft (s .control) ≡ falls → bottomToTop (s .control) ≡ falls → Alike falls
+      unfolding drawingOf
+      alike falls h v =
+          let c = clippedArray op s in
+          let right : fromRight op s ≡ falls = chosen (rightToLeft (s .control)) falls h in
+          let bottom : fromBottom op s ≡ falls = chosen (bottomToTop (s .control)) falls v in
+          record {
+            to-pitch = chosenWalk-pitch op s c (destWalk op s c) ∙ ap (λ (t : Bool). walked t (s .dptch)) bottom;
+            from-pitch = chosenWalk-pitch op s c (srcWalk op s c) ∙ ap₂ walked bottom (scroll .pitches);
+            to-step = chosenWalk-step op s c (destWalk op s c) ∙ ap (λ (t : Bool). walked t (s .psize)) right;
+            from-step = chosenWalk-step op s c (srcWalk op s c) ∙ ap₂ (λ (t : Bool) (k : Source). walked t (stepOf k (s .psize))) right pixelSource;
+          }
+
+      small : 16 * w ≤ 2 ^ 24
+      small = omega (arith, sized w (accepted .memory) .most)
+
+      rises : ToLower op s → RisesBelow (drawingFor op s)
+      unfolding drawingOf
+      rises h =
+          let a = alike false (h .pbh) (h .pbv) in
+          rises-of (drawingFor op s) (s .dptch) (16 * w) small (accepted .size) (dest-inside op s 0 w accepted)
+          (λ i l. src-inside op s 0 w accepted i l pixelSource) (scroll .rows) (scroll .half) (a .to-pitch) (a .from-pitch) (a .to-step)
+          (a .from-step) (h .first)
+
+      falls : ToHigher op s → FallsAbove (drawingFor op s)
+      unfolding drawingOf
+      falls h =
+          let a = alike true (h .pbh) (h .pbv) in
+          falls-of (drawingFor op s) (s .dptch) (16 * w) small (accepted .size) (dest-inside op s 0 w accepted)
+          (λ i l. src-inside op s 0 w accepted i l pixelSource) (scroll .rows) (scroll .half) (a .to-pitch) (a .from-pitch) (a .to-step)
+          (a .from-step) (h .first)
+
+      pub copy-scroll : ToLower op s ⊎ ToHigher op s → OldSource (drawingFor op s) m (drawn op s 0 b m)
+      copy-scroll h = copy-unspoilt (⊎-elim (λ l. unspoilt-of-rises _ (rises l)) (λ u. unspoilt-of-falls _ (falls u)) h)

@@ -1,0 +1,5 @@
+pub mod CopyLaws
+pub mod OrderLaws
+pub mod ScrollLaws
+pub mod AcceptedLaws
+pub mod Example

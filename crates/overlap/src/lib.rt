@@ -1,0 +1,1 @@
+// A PIXBLT of pixels over itself: definitions and laws, no code.
