@@ -118,21 +118,56 @@ static void find_source(struct drawing *d, enum operation op, const struct setti
     d->source = address_at(s->SADDR, rows, s->SPTCH, columns, source_step(op, s));
 }
 
-/* All that is settled by the settings: the window's word, n, and the two starts. */
+/* "B sources, FILL, PIXT and DRAV ignore both bits." */
+static bool corner_is_chosen(enum operation op)
+{
+    return source_of(op) == LINEAR_SOURCE || source_of(op) == XY_SOURCE;
+}
+
+/* "PBH=1 walks each row from its right end, PBV=1 walks rows from the last one up." */
+static void find_order(struct drawing *d, enum operation op, const struct settings *s)
+{
+    if (!corner_is_chosen(op))
+        return;
+    d->from_right = control_pbh(s) == 1;
+    d->from_last_row = control_pbv(s) == 1;
+}
+
+/* "For L,L the caller gives both starts as the address of the chosen corner's pixel itself ...; for
+   L,XY, XY,L and XY,XY the model walks to the corner linearly from the clipped array's upper left
+   start." */
+static void walk_to_corner(struct drawing *d, enum operation op, const struct settings *s)
+{
+    int64_t rows = 0;
+    int64_t columns = 0;
+    if (!corner_is_chosen(op) || op == PIXBLT_L_L)
+        return;
+    if (d->from_last_row)
+        rows = d->window.drawn.rows - 1;
+    if (d->from_right)
+        columns = d->window.drawn.columns - 1;
+    d->destination = address_at(d->destination, rows, s->DPTCH, columns, s->PSIZE);
+    d->source = address_at(d->source, rows, s->SPTCH, columns, s->PSIZE);
+}
+
+/* All that is settled by the settings: the window's word, n, the order, and the two corners. */
 struct drawing drawing_of(enum operation op, const struct settings *s, int v)
 {
-    struct drawing d = { window_of(op, s, v), 0, false, 0, 0 };
+    struct drawing d = { window_of(op, s, v), 0, false, 0, 0, false, false };
     d.n = (uint64_t)d.window.drawn.columns * (uint64_t)d.window.drawn.rows;
     if (d.n > 0) {
         find_destination(&d, op, s);
         find_source(&d, op, s);
+        find_order(&d, op, s);
+        walk_to_corner(&d, op, s);
     }
     return d;
 }
 
 /* Refusal 16: "there are pixels to draw or read, and an XY start after clipping has a negative X or
    Y, or the linear address at which a pixel array ... starts isn't a multiple of PSIZE". A B source
-   is no pixel array. */
+   is no pixel array. Pitches are multiples of 16 here, so the corner's address is a multiple of
+   PSIZE exactly where the upper left one is. */
 static bool start_is_bad(const struct drawing *d, enum operation op, const struct settings *s)
 {
     if (d->n == 0)
@@ -146,18 +181,33 @@ static bool start_is_bad(const struct drawing *d, enum operation op, const struc
     return false;
 }
 
-/* The address of a destination pixel. */
+/* The row that is walked after so many others, counted from the corner's row downwards. */
+static int64_t row_walked(const struct drawing *d, int64_t row)
+{
+    return d->from_last_row ? -row : row;
+}
+
+/* The column that is walked after so many others, counted from the corner's to the right. */
+static int64_t column_walked(const struct drawing *d, int64_t column)
+{
+    return d->from_right ? -column : column;
+}
+
+/* The address of a destination pixel; row and column count those walked before. */
 static uint32_t destination_at(const struct drawing *d, const struct settings *s, int64_t row,
                                int64_t column)
 {
-    return address_at(d->destination, row, s->DPTCH, column, s->PSIZE);
+    return address_at(d->destination, row_walked(d, row), s->DPTCH, column_walked(d, column),
+                      s->PSIZE);
 }
 
-/* The address of a source pixel or of a B source's bit. */
+/* The address of a source pixel or of a B source's bit; row and column count those walked
+   before. */
 static uint32_t source_at(const struct drawing *d, enum operation op, const struct settings *s,
                           int64_t row, int64_t column)
 {
-    return address_at(d->source, row, s->SPTCH, column, source_step(op, s));
+    return address_at(d->source, row_walked(d, row), s->SPTCH, column_walked(d, column),
+                      source_step(op, s));
 }
 
 /* Refusal 17: "some pixel, source bit ... that would be visited ... over the whole operation has an
@@ -216,7 +266,8 @@ static uint32_t source_pixel(struct memory m, const struct drawing *d, enum oper
 }
 
 /* "Pixels are visited row by row from the start, and each one reads memory as the ones before left
-   it. This serial rule decides." Visit number k, counted from 0. */
+   it. This serial rule decides." "The serial rule of 01 reads 'in the chosen order'." Visit number
+   k, counted from 0. */
 static void visit(struct memory m, const struct drawing *d, enum operation op,
                   const struct settings *s, uint64_t k)
 {
@@ -227,15 +278,17 @@ static void visit(struct memory m, const struct drawing *d, enum operation op,
 }
 
 /* "Done with n > 0, DADDR is the drawn array's linear start plus its rows times DPTCH, SADDR
-   likewise for PIXBLT". "When n = 0 the registers stay, except as W=1 says": "DADDR and DYDX become
-   the common rectangle (XY)". */
+   likewise for PIXBLT"; with a corner, "the linear address, in the chosen corner's column, of the
+   row after the last one walked (the row above if PBV=1)". "When n = 0 the registers stay, except
+   as W=1 says": "DADDR and DYDX become the common rectangle (XY)". */
 static void end_registers(struct draw_answer *r, const struct drawing *d, enum operation op,
                           const struct settings *s)
 {
     if (d->n > 0) {
-        r->DADDR = address_at(d->destination, d->window.drawn.rows, s->DPTCH, 0, 0);
+        int64_t row_after = row_walked(d, d->window.drawn.rows);
+        r->DADDR = address_at(d->destination, row_after, s->DPTCH, 0, 0);
         if (source_of(op) != NO_SOURCE)
-            r->SADDR = address_at(d->source, d->window.drawn.rows, s->SPTCH, 0, 0);
+            r->SADDR = address_at(d->source, row_after, s->SPTCH, 0, 0);
     }
     if (d->window.common_is_reported) {
         r->DADDR = xy_number(d->window.common.x, d->window.common.y);

@@ -36,7 +36,8 @@ uint32_t xy_linear(const struct settings *s, int64_t x, int64_t y, uint32_t pitc
     return (uint32_t)((uint64_t)sum & 0xFFFFFFFFu);
 }
 
-/* "From its start an array walks linearly; row addresses wrap modulo 2^32, pixel steps too." */
+/* "From its start an array walks linearly; row addresses wrap modulo 2^32, pixel steps too." A
+   negative row lies above the start, a negative column left of it. */
 uint32_t address_at(uint32_t start, int64_t row, uint32_t pitch, int64_t column, uint32_t step)
 {
     uint64_t row_address = ((uint64_t)start + (uint64_t)row * pitch) & 0xFFFFFFFFu;

@@ -1,5 +1,6 @@
-/* A naive model of a chip's drawing side, written from the scope's text alone, and FILL timing from
-   document 000, section 13.3.
+/* A naive model of a chip's drawing side, written from the documents' text and the readings of it
+   alone: the scope; for FILL timing request One and document 000, section 13.3; for the starting
+   corners request Eight.
    Every part follows the text sentence by sentence; nothing here is meant to be fast. */
 #ifndef MODEL_H
 #define MODEL_H
@@ -145,6 +146,8 @@ struct settings {
 uint32_t control_pp(const struct settings *s);
 uint32_t control_t(const struct settings *s);
 uint32_t control_w(const struct settings *s);
+uint32_t control_pbh(const struct settings *s);
+uint32_t control_pbv(const struct settings *s);
 uint32_t control_cd(const struct settings *s);
 bool psize_is_bad(const struct settings *s);
 bool control_is_bad(const struct settings *s);
@@ -216,8 +219,10 @@ struct drawing {
     struct window_answer window;
     uint64_t n;            /* "n pixels in all" */
     bool negative_start;   /* an XY start after clipping has a negative X or Y */
-    uint32_t destination;  /* linear start of the drawn array */
-    uint32_t source;       /* linear start of its source */
+    uint32_t destination;  /* linear address of the drawn array's chosen corner */
+    uint32_t source;       /* the same of its source */
+    bool from_right;       /* each row is walked from its right end */
+    bool from_last_row;    /* rows are walked from the last one up */
 };
 
 struct rectangle array_of(enum operation op, const struct settings *s);

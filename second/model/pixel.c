@@ -30,6 +30,18 @@ uint32_t control_w(const struct settings *s)
     return control_bits(s, 6, 2);
 }
 
+/* "PBH (bit 8)" */
+uint32_t control_pbh(const struct settings *s)
+{
+    return control_bits(s, 8, 1);
+}
+
+/* "PBV (bit 9)" */
+uint32_t control_pbv(const struct settings *s)
+{
+    return control_bits(s, 9, 1);
+}
+
 /* "CD (CONTROL bit 15)" */
 uint32_t control_cd(const struct settings *s)
 {
@@ -43,10 +55,10 @@ bool psize_is_bad(const struct settings *s)
     return P != 1 && P != 2 && P != 4 && P != 8 && P != 16;
 }
 
-/* Refusal 12: "PP (CONTROL bits 10-14) is above 21, or PBH (bit 8) or PBV (bit 9) is 1". */
+/* "12 is given from now on only for PP above 21." */
 bool control_is_bad(const struct settings *s)
 {
-    return control_pp(s) > 21 || control_bits(s, 8, 1) == 1 || control_bits(s, 9, 1) == 1;
+    return control_pp(s) > 21;
 }
 
 /* "the P bits of PMASK at its destination's place in the word", and colours "the same way":

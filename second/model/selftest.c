@@ -291,9 +291,9 @@ static void test_refusals(void)
     s.CONTROL = control(22, 0, 0);
     check("12, PP", draw(m, FILL_L, &s, 0, 0, 9).answer == 12);
     s.CONTROL = 0x0100;
-    check("12, PBH", draw(m, FILL_L, &s, 0, 0, 9).answer == 12);
+    check("PBH", draw(m, FILL_L, &s, 0, 0, 9).answer == 0);
     s.CONTROL = 0x0200;
-    check("12, PBV", draw(m, FILL_L, &s, 0, 0, 9).answer == 12);
+    check("PBV", draw(m, FILL_L, &s, 0, 0, 9).answer == 0);
     s.CONTROL = 0x801F;
     check("other bits of CONTROL", draw(m, FILL_L, &s, 0, 0, 9).answer == 0);
     s.CONTROL = 0;
@@ -454,6 +454,443 @@ static void test_slices(void)
     check("place of 64 bits", r.answer == 15 && r.place == ((uint64_t)1 << 32) + 1);
 }
 
+/* ---- Starting corners ---- */
+
+#define PBH 0x0100
+#define PBV 0x0200
+
+/* One starting corner of an array of 3 by 2 pixels of 4 bits. The source's rows start at 72 and
+   136 (SPTCH 64), its pixels are 1, 2, 3 and 4, 5, 6. The destination's rows start at 404 and 532
+   (DPTCH 128). */
+struct corner_case {
+    uint16_t bits;
+    uint32_t source;          /* the corner's pixels, which L,L is given */
+    uint32_t destination;
+    uint32_t value[6];        /* the source pixels in the order of the visits */
+    uint32_t address[6];      /* the destination pixels in that order */
+    uint32_t SADDR;           /* at the end */
+    uint32_t DADDR;
+};
+
+static const struct corner_case corner_cases[4] = {
+    /* Ends: 72 + 2*64, 404 + 2*128. */
+    { 0, 72, 404, { 1, 2, 3, 4, 5, 6 }, { 404, 408, 412, 532, 536, 540 }, 200, 660 },
+    /* Corner: 72 + 2*4, 404 + 2*4. Ends: 80 + 2*64, 412 + 2*128. */
+    { PBH, 80, 412, { 3, 2, 1, 6, 5, 4 }, { 412, 408, 404, 540, 536, 532 }, 208, 668 },
+    /* Corner: 72 + 64, 404 + 128. Ends: 136 - 2*64, 532 - 2*128. */
+    { PBV, 136, 532, { 4, 5, 6, 1, 2, 3 }, { 532, 536, 540, 404, 408, 412 }, 8, 276 },
+    /* Corner: 72 + 64 + 2*4, 404 + 128 + 2*4. Ends: 144 - 2*64, 540 - 2*128. */
+    { PBH | PBV, 144, 540, { 6, 5, 4, 3, 2, 1 }, { 540, 536, 532, 412, 408, 404 }, 16, 284 }
+};
+
+/* The last pixel has the bits 540 to 543. */
+#define CORNER_WORDS 34
+
+/* The memory before: 1, 2, 3 are the bits 72 to 83, and 4, 5, 6 the bits 136 to 147. */
+static void corner_memory(uint16_t *word)
+{
+    memset(word, 0, CORNER_WORDS * sizeof word[0]);
+    word[4] = 0x2100;
+    word[5] = 0x0003;
+    word[8] = 0x5400;
+    word[9] = 0x0006;
+}
+
+/* The same arrays for each operation: 2, 1 is 64 + 8, and 5, 3 is 3*128 + 20. */
+static struct settings corner_settings(enum operation op, const struct corner_case *c)
+{
+    struct settings s = plain_settings(4);
+    s.DPTCH = 128;
+    s.DYDX = xy_number(3, 2);
+    s.SADDR = op == PIXBLT_XY_L || op == PIXBLT_XY_XY ? xy_number(2, 1) : 72;
+    s.DADDR = op == PIXBLT_L_XY || op == PIXBLT_XY_XY ? xy_number(5, 3) : 404;
+    if (op == PIXBLT_L_L) {
+        s.SADDR = c->source;
+        s.DADDR = c->destination;
+    }
+    s.CONTROL = c->bits;
+    return s;
+}
+
+/* Whether the visit at place k, a call with a budget of 1, writes this value at this address and
+   changes nothing else. */
+static bool visit_is(enum operation op, const struct settings *s, uint64_t k, uint32_t address,
+                     uint32_t value)
+{
+    uint16_t word[CORNER_WORDS];
+    uint16_t expected[CORNER_WORDS];
+    corner_memory(word);
+    corner_memory(expected);
+    pixel_put(memory_of(expected, CORNER_WORDS), address, 4, value);
+    struct draw_answer r = draw(memory_of(word, CORNER_WORDS), op, s, k, 0, 1);
+    return r.answer == (k == 5 ? DONE : STOPPED) && r.visited == 1 && r.place == k + 1
+        && memcmp(word, expected, sizeof word) == 0;
+}
+
+/* Whether the whole drawing of 6 pixels ends with V and these registers. */
+static bool end_is(enum operation op, const struct settings *s, int v, uint32_t SADDR,
+                   uint32_t DADDR)
+{
+    uint16_t word[CORNER_WORDS];
+    corner_memory(word);
+    struct draw_answer r = draw(memory_of(word, CORNER_WORDS), op, s, 0, 0, 100);
+    return r.answer == DONE && r.visited == 6 && r.v == v && r.request == 0 && r.SADDR == SADDR
+        && r.DADDR == DADDR && r.DYDX == s->DYDX;
+}
+
+/* "PBH=1 walks each row from its right end, PBV=1 walks rows from the last one up." Each visit and
+   the ends of the four operations; with a word less the pixels from 528 on are outside. */
+static void test_corners(void)
+{
+    for (int op = PIXBLT_L_L; op <= PIXBLT_XY_XY; op++) {
+        for (int i = 0; i < 4; i++) {
+            const struct corner_case *c = &corner_cases[i];
+            struct settings s = corner_settings((enum operation)op, c);
+            uint16_t word[CORNER_WORDS];
+            corner_memory(word);
+            for (int k = 0; k < 6; k++)
+                check("corner, visit", visit_is((enum operation)op, &s, (uint64_t)k,
+                                                c->address[k], c->value[k]));
+            check("corner, end", end_is((enum operation)op, &s, 0, c->SADDR, c->DADDR));
+            check("corner, 17", draw(memory_of(word, CORNER_WORDS - 1), (enum operation)op, &s, 0,
+                                     0, 0).answer == 17);
+            struct draw_answer r = draw(memory_of(word, CORNER_WORDS), (enum operation)op, &s, 0,
+                                        0, 5);
+            check("corner, stopped", r.answer == STOPPED && r.place == 5 && r.SADDR == s.SADDR
+                  && r.DADDR == s.DADDR);
+        }
+    }
+}
+
+/* An array of 5 by 4 from 4, 2 on, whose window leaves the 3 by 2 pixels from 5, 3 on. The source
+   starts at 1, 0, which is the address 4, and moves by one column and one row: 4 + 64 + 4. */
+static struct settings clipped_corner_settings(enum operation op, uint32_t w, uint16_t bits)
+{
+    struct settings s = plain_settings(4);
+    s.DPTCH = 128;
+    s.DYDX = xy_number(5, 4);
+    s.SADDR = op == PIXBLT_XY_XY ? xy_number(1, 0) : 4;
+    s.DADDR = xy_number(4, 2);
+    s.WSTART = xy_number(5, 3);
+    s.WEND = xy_number(7, 4);
+    s.CONTROL = (uint16_t)(control(0, w, 0) | bits);
+    return s;
+}
+
+/* "walks to the corner linearly from the clipped array's upper left start": W=3 leaves the arrays
+   of the corner cases. W=1 reports the upper left, whatever the corner. */
+static void test_clipped_corners(void)
+{
+    static const enum operation ops[2] = { PIXBLT_L_XY, PIXBLT_XY_XY };
+    for (int i = 0; i < 8; i++) {
+        enum operation op = ops[i / 4];
+        const struct corner_case *c = &corner_cases[i % 4];
+        struct settings s = clipped_corner_settings(op, 3, c->bits);
+        uint16_t word[CORNER_WORDS] = { 0 };
+        for (int k = 0; k < 6; k++)
+            check("clipped corner, visit",
+                  visit_is(op, &s, (uint64_t)k, c->address[k], c->value[k]));
+        check("clipped corner, end", end_is(op, &s, 1, c->SADDR, c->DADDR));
+        s = clipped_corner_settings(op, 1, c->bits);
+        struct draw_answer r = draw(memory_of(word, CORNER_WORDS), op, &s, 0, 0, 100);
+        check("corner, W=1", r.answer == 0 && r.visited == 0 && r.v == 1 && r.request == 1
+              && r.SADDR == s.SADDR && r.DADDR == 0x00030005 && r.DYDX == 0x00020003);
+        s = clipped_corner_settings(op, 2, c->bits);
+        r = draw(memory_of(word, CORNER_WORDS), op, &s, 0, 0, 100);
+        check("corner, W=2 outside", r.answer == 0 && r.visited == 0 && r.v == 1
+              && r.request == 1 && r.SADDR == s.SADDR && r.DADDR == s.DADDR);
+    }
+}
+
+/* "B sources, FILL, PIXT and DRAV ignore both bits." FILL draws 15 from 404 to 540. The B source's
+   bits 72 to 74 are 1, 0, 0 (of 21h), and 136 to 138 are 0, 0, 1 (of 54h). */
+static void test_corners_ignored(void)
+{
+    for (int i = 0; i < 4; i++) {
+        struct settings s = plain_settings(4);
+        s.DPTCH = 128;
+        s.DYDX = xy_number(3, 2);
+        s.COLOR0 = 0x7777;
+        s.COLOR1 = 0xFFFF;
+        s.CONTROL = corner_cases[i].bits;
+        s.DADDR = 404;
+        s.SADDR = 72;
+        check("FILL L ignores the corner", visit_is(FILL_L, &s, 0, 404, 15)
+              && visit_is(FILL_L, &s, 5, 540, 15) && end_is(FILL_L, &s, 0, 72, 660));
+        check("B,L ignores the corner", visit_is(PIXBLT_B_L, &s, 0, 404, 15)
+              && visit_is(PIXBLT_B_L, &s, 1, 408, 7) && visit_is(PIXBLT_B_L, &s, 3, 532, 7)
+              && visit_is(PIXBLT_B_L, &s, 5, 540, 15) && end_is(PIXBLT_B_L, &s, 0, 200, 660));
+        s.DADDR = xy_number(5, 3);
+        check("FILL XY ignores the corner", visit_is(FILL_XY, &s, 0, 404, 15)
+              && visit_is(FILL_XY, &s, 5, 540, 15) && end_is(FILL_XY, &s, 0, 72, 660));
+        check("B,XY ignores the corner", visit_is(PIXBLT_B_XY, &s, 0, 404, 15)
+              && visit_is(PIXBLT_B_XY, &s, 1, 408, 7) && visit_is(PIXBLT_B_XY, &s, 3, 532, 7)
+              && visit_is(PIXBLT_B_XY, &s, 5, 540, 15) && end_is(PIXBLT_B_XY, &s, 0, 200, 660));
+    }
+}
+
+/* PIXT and DRAV under all four corners: the pixel at 8 of 4321h is 3. */
+static void test_corners_of_lone_pixels(void)
+{
+    for (int i = 0; i < 4; i++) {
+        uint16_t word[4] = { 0x4321, 0, 0, 0 };
+        struct memory m = memory_of(word, 4);
+        struct settings s = plain_settings(4);
+        s.COLOR1 = 0x8765;
+        s.CONTROL = corner_cases[i].bits;
+        struct pixt_answer r = pixt_from_linear(m, &s, 8, 0);
+        check("PIXT from linear, corner", r.answer == 0 && r.visited == 1 && r.value == 3);
+        r = pixt_from_xy(m, &s, xy_number(2, 0), 0);
+        check("PIXT from XY, corner", r.answer == 0 && r.visited == 1 && r.value == 3);
+        r = pixt_to_linear(m, &s, 9, 8, 0);
+        check("PIXT to linear, corner", r.answer == 0 && r.visited == 1 && word[0] == 0x4921);
+        r = pixt_to_xy(m, &s, 10, xy_number(1, 0), 0);
+        check("PIXT to XY, corner", r.answer == 0 && r.visited == 1 && word[0] == 0x49A1);
+        struct drav_answer d = drav(m, &s, 1, xy_number(3, 0), 0);
+        check("DRAV, corner", d.answer == 0 && d.visited == 1 && d.point == 4
+              && word[0] == 0x89A1);
+    }
+}
+
+/* "12 is given from now on only for PP above 21", for every call. */
+static void test_corner_refusal_12(void)
+{
+    for (int i = 0; i < 4; i++) {
+        uint16_t word[16] = { 0 };
+        struct memory m = memory_of(word, 16);
+        struct settings s = plain_settings(4);
+        s.DYDX = xy_number(1, 1);
+        for (int op = 0; op < OPERATIONS; op++) {
+            s.CONTROL = (uint16_t)(control(21, 0, 0) | corner_cases[i].bits);
+            check("PP 21, corner", draw(m, (enum operation)op, &s, 0, 0, 9).answer == 0);
+            s.CONTROL = (uint16_t)(control(22, 0, 0) | corner_cases[i].bits);
+            check("12, corner", draw(m, (enum operation)op, &s, 0, 0, 9).answer == 12);
+        }
+        check("12, PIXT and DRAV", pixt_from_linear(m, &s, 0, 0).answer == 12
+              && pixt_from_xy(m, &s, 0, 0).answer == 12
+              && pixt_to_linear(m, &s, 0, 0, 0).answer == 12
+              && pixt_to_xy(m, &s, 0, 0, 0).answer == 12 && drav(m, &s, 0, 0, 0).answer == 12);
+    }
+}
+
+/* Refusals 15 and 16 with corners. 16 looks at the upper left: from -1 on, 3 columns reach 1, and
+   still it is given. */
+static void test_corner_starts(void)
+{
+    uint16_t word[CORNER_WORDS] = { 0 };
+    struct memory m = memory_of(word, CORNER_WORDS);
+    for (int i = 0; i < 4; i++) {
+        const struct corner_case *c = &corner_cases[i];
+        struct settings s = corner_settings(PIXBLT_XY_XY, c);
+        check("15, corner", draw(m, PIXBLT_XY_XY, &s, 7, 0, 9).answer == 15);
+        s.DADDR = xy_number(-1, 3);
+        check("16, corner, negative X", draw(m, PIXBLT_XY_XY, &s, 0, 0, 9).answer == 16);
+        s.DADDR = xy_number(5, -1);
+        check("16, corner, negative Y", draw(m, PIXBLT_XY_XY, &s, 0, 0, 9).answer == 16);
+        s.DADDR = xy_number(5, 3);
+        s.SADDR = xy_number(-1, -1);
+        check("16, corner, source", draw(m, PIXBLT_XY_XY, &s, 0, 0, 9).answer == 16);
+        s = corner_settings(PIXBLT_L_L, c);
+        s.DADDR = c->destination + 2;
+        check("16, corner, L,L", draw(m, PIXBLT_L_L, &s, 0, 0, 9).answer == 16);
+        s.DADDR = c->destination;
+        s.SADDR = c->source + 1;
+        check("16, corner, L,L source", draw(m, PIXBLT_L_L, &s, 0, 0, 9).answer == 16);
+        s.DYDX = xy_number(3, 0);
+        struct draw_answer r = draw(m, PIXBLT_L_L, &s, 0, 0, 9);
+        check("empty, corner", r.answer == 0 && r.SADDR == s.SADDR && r.DADDR == s.DADDR);
+    }
+}
+
+/* The answer of L,L from these two corners over 34 words, the pitches 64, with a budget of 0. */
+static int answer_of_l_l(uint16_t bits, uint32_t SADDR, uint32_t DADDR, int columns, int rows)
+{
+    uint16_t word[CORNER_WORDS] = { 0 };
+    struct settings s = plain_settings(4);
+    s.SADDR = SADDR;
+    s.DADDR = DADDR;
+    s.DYDX = xy_number(columns, rows);
+    s.CONTROL = bits;
+    return draw(memory_of(word, CORNER_WORDS), PIXBLT_L_L, &s, 0, 0, 0).answer;
+}
+
+/* Refusal 17: three pixels that fall from 8 are at 8, 4 and 0, from 4 the last one is at 2^32 - 4.
+   Three rows that fall from 128 are at 128, 64 and 0, from 64 the last one is at 2^32 - 64. At 540
+   lies the last pixel of 34 words. */
+static void test_corner_refusal_17(void)
+{
+    check("PBH down to 0", answer_of_l_l(PBH, 8, 8, 3, 1) == STOPPED);
+    check("PBH below 0, destination", answer_of_l_l(PBH, 8, 4, 3, 1) == 17);
+    check("PBH below 0, source", answer_of_l_l(PBH, 4, 8, 3, 1) == 17);
+    check("PBH=0 from 4", answer_of_l_l(0, 4, 4, 3, 1) == STOPPED);
+    check("PBV down to 0", answer_of_l_l(PBV, 128, 128, 1, 3) == STOPPED);
+    check("PBV below 0, destination", answer_of_l_l(PBV, 128, 64, 1, 3) == 17);
+    check("PBV below 0, source", answer_of_l_l(PBV, 64, 128, 1, 3) == 17);
+    check("PBV=0 from 64", answer_of_l_l(0, 64, 64, 1, 3) == STOPPED);
+    check("both from the end", answer_of_l_l(PBH | PBV, 540, 540, 3, 3) == STOPPED);
+    check("PBH=0 at the end", answer_of_l_l(PBV, 540, 540, 3, 3) == 17);
+    check("PBV=0 at the end", answer_of_l_l(PBH, 540, 540, 3, 3) == 17);
+}
+
+/* The four scrolls of a row of 8 pixels of 4 bits, 7 of them moved by one, in XY,XY. The second
+   word of each pair holds the pixels 4 to 7. */
+static void test_corner_scroll_row(void)
+{
+    static const uint16_t bits[4] = { PBH, 0, 0, PBH };
+    static const uint32_t from[4] = { 0, 0, 1, 1 };
+    static const uint16_t low[4] = { 0x3211, 0x1111, 0x5432, 0x8888 };
+    static const uint16_t high[4] = { 0x7654, 0x1111, 0x8876, 0x8888 };
+    for (int i = 0; i < 4; i++) {
+        uint16_t word[4] = { 0x4321, 0x8765, 0, 0 };
+        struct settings s = plain_settings(4);
+        s.SADDR = from[i];
+        s.DADDR = 1 - from[i];
+        s.DYDX = xy_number(7, 1);
+        s.CONTROL = bits[i];
+        draw(memory_of(word, 4), PIXBLT_XY_XY, &s, 0, 0, 100);
+        check("scroll of a row", word[0] == low[i] && word[1] == high[i]);
+    }
+    /* L,L to the right: the right ends are the pixels at 24 and 28; ends 24 + 64 and 28 + 64. */
+    uint16_t word[4] = { 0x4321, 0x8765, 0, 0 };
+    struct settings s = plain_settings(4);
+    s.SADDR = 24;
+    s.DADDR = 28;
+    s.DYDX = xy_number(7, 1);
+    s.CONTROL = PBH;
+    struct draw_answer r = draw(memory_of(word, 4), PIXBLT_L_L, &s, 0, 0, 100);
+    check("scroll of a row, L,L", word[0] == 0x3211 && word[1] == 0x7654 && word[2] == 0);
+    check("scroll of a row, L,L, ends", r.SADDR == 88 && r.DADDR == 92);
+}
+
+/* The four scrolls of a column of four words, 3 of them moved by one, in XY,XY. */
+static void test_corner_scroll_column(void)
+{
+    static const uint16_t bits[4] = { PBV, 0, 0, PBV };
+    static const int from[4] = { 0, 0, 1, 1 };
+    static const uint16_t after[4][4] = {
+        { 1, 1, 2, 3 }, { 1, 1, 1, 1 }, { 2, 3, 4, 4 }, { 4, 4, 4, 4 }
+    };
+    for (int i = 0; i < 4; i++) {
+        uint16_t word[4] = { 1, 2, 3, 4 };
+        struct settings s = plain_settings(16);
+        s.SPTCH = 16;
+        s.DPTCH = 16;
+        s.SADDR = xy_number(0, from[i]);
+        s.DADDR = xy_number(0, 1 - from[i]);
+        s.DYDX = xy_number(1, 3);
+        s.CONTROL = bits[i];
+        draw(memory_of(word, 4), PIXBLT_XY_XY, &s, 0, 0, 100);
+        check("scroll of a column", memcmp(word, after[i], sizeof word) == 0);
+    }
+}
+
+/* Down and to the right, 3 by 2 pixels of rows 1, 2, 3, 4; 5, 6, 7, 8; 9, 10, 11, 12. From the last
+   row up, the rows become 5, 1, 2, 3 and 9, 5, 6, 7; from the first one down, the last row takes
+   its pixels from 5, 1, 2. */
+static void test_corner_scroll_diagonal(void)
+{
+    static const uint16_t last[4] = { 0x2159, 0x2159, 0x7659, 0x7659 };
+    for (int i = 0; i < 4; i++) {
+        uint16_t word[3] = { 0x4321, 0x8765, 0xCBA9 };
+        struct settings s = plain_settings(4);
+        s.SPTCH = 16;
+        s.DPTCH = 16;
+        s.DADDR = xy_number(1, 1);
+        s.DYDX = xy_number(3, 2);
+        s.CONTROL = corner_cases[i].bits;
+        draw(memory_of(word, 3), PIXBLT_XY_XY, &s, 0, 0, 100);
+        check("scroll down and right",
+              word[0] == 0x4321 && word[1] == 0x3215 && word[2] == last[i]);
+    }
+}
+
+/* The pixel at x, y of a screen with rows of 64 bits. */
+static uint32_t screen_pixel(uint16_t *word, int x, int y)
+{
+    return pixel_get(memory_of(word, 40), (uint32_t)(64 * y + 4 * x), 4);
+}
+
+/* "leaves the old source in all it draws, if the corner's walk rises in address from pixel to pixel
+   where each destination pixel lies below its source pixel, and falls where it lies above": 5 by 4
+   pixels from 4, 3 on, moved by up to 2 columns and rows. */
+static void test_corner_keeps_source(void)
+{
+    for (int move = 0; move < 25; move++) {
+        int dx = move % 5 - 2;
+        int dy = move / 5 - 2;
+        struct settings s = plain_settings(4);
+        s.SADDR = xy_number(4, 3);
+        s.DADDR = xy_number(4 + dx, 3 + dy);
+        s.DYDX = xy_number(5, 4);
+        s.CONTROL = 64 * dy + 4 * dx > 0 ? PBH | PBV : 0;
+        image_make(memory_of(big, 40), 5);
+        image_make(memory_of(other, 40), 5);
+        draw(memory_of(big, 40), PIXBLT_XY_XY, &s, 0, 0, 100);
+        bool kept = true;
+        for (int y = 3; y < 7; y++) {
+            for (int x = 4; x < 9; x++) {
+                if (screen_pixel(big, x + dx, y + dy) != screen_pixel(other, x, y))
+                    kept = false;
+            }
+        }
+        check("the old source is kept", kept);
+    }
+}
+
+/* "modulo 2^32": rows that lie 16 bits above one another. L,XY, PBV=1: the source's upper left is
+   48, its rows 48, 32, 16; the corner is 48 - 2*16, the end 16 + 3*16. The destination's rows are
+   64, 80, 96; the corner is 96, the end 96 - 3*16. */
+static void test_corner_wrapping_pitch(void)
+{
+    static const uint16_t after[7] = { 0, 1, 2, 3, 3, 2, 1 };
+    uint16_t word[7] = { 0, 1, 2, 3, 0, 0, 0 };
+    struct settings s = plain_settings(16);
+    s.SADDR = 48;
+    s.SPTCH = 0xFFFFFFF0u;
+    s.DADDR = xy_number(0, 4);
+    s.DPTCH = 16;
+    s.DYDX = xy_number(1, 3);
+    s.CONTROL = PBV;
+    struct draw_answer r = draw(memory_of(word, 7), PIXBLT_L_XY, &s, 0, 0, 1);
+    check("corner, wrapping pitch, first", r.answer == 1 && word[6] == 1 && word[4] == 0);
+    r = draw(memory_of(word, 7), PIXBLT_L_XY, &s, 1, 0, 100);
+    check("corner, wrapping pitch", memcmp(word, after, sizeof word) == 0 && r.SADDR == 64
+          && r.DADDR == 48);
+    /* L,L: two rows that fall from 64 are at 64 and 0; the ends are 64 - 2*64. */
+    s = plain_settings(16);
+    s.SADDR = 64;
+    s.DADDR = 64;
+    s.DYDX = xy_number(1, 2);
+    s.CONTROL = PBV;
+    r = draw(memory_of(word, 7), PIXBLT_L_L, &s, 0, 0, 100);
+    check("corner, end below 0", r.answer == 0 && r.SADDR == 0xFFFFFFC0u
+          && r.DADDR == 0xFFFFFFC0u);
+}
+
+/* Slices of 4 pixels against the whole drawing, over arrays that overlap, from each corner: the
+   upper left pixels lie at 64 and 72, the corner 6*4 to the right and 4*64 below. */
+static void test_corner_slices(void)
+{
+    for (int i = 0; i < 4; i++) {
+        struct settings s = plain_settings(4);
+        uint32_t to_corner = (i % 2 == 1 ? 24u : 0u) + (i / 2 == 1 ? 256u : 0u);
+        s.SADDR = 64 + to_corner;
+        s.DADDR = 72 + to_corner;
+        s.DYDX = xy_number(7, 5);
+        s.PMASK = 0x2401;
+        s.CONTROL = (uint16_t)(control(16, 0, 1) | corner_cases[i].bits);
+        image_make(memory_of(big, 40), 77);
+        image_make(memory_of(other, 40), 77);
+        struct draw_answer whole = draw(memory_of(big, 40), PIXBLT_L_L, &s, 0, 0, 35);
+        struct draw_answer r = draw(memory_of(other, 40), PIXBLT_L_L, &s, 0, 0, 4);
+        while (r.answer == STOPPED)
+            r = draw(memory_of(other, 40), PIXBLT_L_L, &s, r.place, 0, 4);
+        check("corner, slices", whole.answer == 0 && r.answer == 0 && r.place == 35
+              && memcmp(big, other, 80) == 0 && r.SADDR == whole.SADDR
+              && r.DADDR == whole.DADDR);
+    }
+}
+
 /* ---- FILL timing ---- */
 
 /* Whether a drawing over this many words is done and has these four numbers. */
@@ -493,6 +930,8 @@ static void test_fill_examples(void)
     check("example 13-3", fill_is(11208, FILL_XY, &s, 16, 1307, 30, 1293));
     s.CONTROL = (uint16_t)(s.CONTROL | 0x8000);
     check("example 13-3, CD", fill_is(11208, FILL_XY, &s, 19, 1307, 30, 1296));
+    s.CONTROL = (uint16_t)(s.CONTROL | PBH | PBV);
+    check("example 13-3, CD and corner", fill_is(11208, FILL_XY, &s, 19, 1307, 30, 1296));
 }
 
 /* A FILL L of rows of pixels of 4 bits, with what table 13-6 gives for it. */
@@ -941,6 +1380,19 @@ int main(void)
     test_clipped_source();
     test_wrapping_pitch();
     test_slices();
+    test_corners();
+    test_clipped_corners();
+    test_corners_ignored();
+    test_corners_of_lone_pixels();
+    test_corner_refusal_12();
+    test_corner_starts();
+    test_corner_refusal_17();
+    test_corner_scroll_row();
+    test_corner_scroll_column();
+    test_corner_scroll_diagonal();
+    test_corner_keeps_source();
+    test_corner_wrapping_pitch();
+    test_corner_slices();
     test_fill_examples();
     test_fill_transfer();
     test_fill_sizes();
