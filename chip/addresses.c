@@ -338,85 +338,103 @@ static const uint32_t pitches[3] = { 0x1000, 0x0AD0, 0x10AFC };
 
 enum { SOURCE, DESTINATION };
 
-/* An array of 2 rows; `clipped` moves its start down by a row. 1 is allowed, 0 is not. */
+/* What is to move the start of an array of 2 rows down by a row: the window, or PBV=1. */
+enum { NOTHING, CLIPPING, LOWER_LEFT };
+
+/* 1 is allowed, 0 is not. */
 static const struct pitch_row {
     struct figure figure;
     uint32_t operation;
     int which;
-    bool clipped;
+    int moved_by;
     uint32_t dx;
     uint64_t printed[3], scope[3];
 } pitch_rows[] = {
     { { "004", "5.1.4", "SPTCH, PIXBLT B,L (example >00010AFC)", "unconstrained", SAME },
-      BH_PIXBLT_B_L, SOURCE, false, 2, { 1, 1, 1 }, { 0 } },
+      BH_PIXBLT_B_L, SOURCE, NOTHING, 2, { 1, 1, 1 }, { 0 } },
     { { "004", "5.1.4", "SPTCH, PIXBLT B,XY", "unconstrained otherwise", SAME },
-      BH_PIXBLT_B_XY, SOURCE, false, 2, { 1, 1, 1 }, { 0 } },
+      BH_PIXBLT_B_XY, SOURCE, NOTHING, 2, { 1, 1, 1 }, { 0 } },
+    { { "004", "5.1.4", "SPTCH, PIXBLT B,XY, PBV=1", "unconstrained otherwise", SAME },
+      BH_PIXBLT_B_XY, SOURCE, LOWER_LEFT, 2, { 1, 1, 1 }, { 0 } },
     { { "004", "5.1.4", "SPTCH, PIXBLT B,XY, clipped", "power of two for windowing", "1.15" },
-      BH_PIXBLT_B_XY, SOURCE, true, 2, { 1, 0, 0 }, { 1, 1, 1 } },
+      BH_PIXBLT_B_XY, SOURCE, CLIPPING, 2, { 1, 0, 0 }, { 1, 1, 1 } },
     { { "004", "5.1.4", "SPTCH, PIXBLT L,L", "integer multiple of 16", SAME },
-      BH_PIXBLT_L_L, SOURCE, false, 2, { 1, 1, 0 }, { 0 } },
+      BH_PIXBLT_L_L, SOURCE, NOTHING, 2, { 1, 1, 0 }, { 0 } },
+    { { "004", "5.1.4", "SPTCH, PIXBLT L,L, PBV=1", "pitches that are not powers of two", SAME },
+      BH_PIXBLT_L_L, SOURCE, LOWER_LEFT, 2, { 1, 1, 0 }, { 0 } },
     { { "004", "5.1.4", "SPTCH, PIXBLT L,XY", "unconstrained otherwise", SAME },
-      BH_PIXBLT_L_XY, SOURCE, false, 2, { 1, 1, 0 }, { 0 } },
+      BH_PIXBLT_L_XY, SOURCE, NOTHING, 2, { 1, 1, 0 }, { 0 } },
     { { "004", "5.1.4", "SPTCH, PIXBLT L,XY, clipped", "power of two for windowing", "1.15" },
-      BH_PIXBLT_L_XY, SOURCE, true, 2, { 1, 0, 0 }, { 1, 1, 0 } },
+      BH_PIXBLT_L_XY, SOURCE, CLIPPING, 2, { 1, 0, 0 }, { 1, 1, 0 } },
+    { { "004", "5.1.4", "SPTCH, PIXBLT L,XY, PBV=1", "power of two for .. PBV = 1", "1.15" },
+      BH_PIXBLT_L_XY, SOURCE, LOWER_LEFT, 2, { 1, 0, 0 }, { 1, 1, 0 } },
     { { "004", "5.1.4", "SPTCH, PIXBLT XY,L (example >00001000)", "Power of two", SAME },
-      BH_PIXBLT_XY_L, SOURCE, false, 2, { 1, 0, 0 }, { 0 } },
+      BH_PIXBLT_XY_L, SOURCE, NOTHING, 2, { 1, 0, 0 }, { 0 } },
     { { "004", "5.1.4", "SPTCH, PIXBLT XY,XY", "Power of two", SAME },
-      BH_PIXBLT_XY_XY, SOURCE, false, 2, { 1, 0, 0 }, { 0 } },
+      BH_PIXBLT_XY_XY, SOURCE, NOTHING, 2, { 1, 0, 0 }, { 0 } },
     { { "004", "5.1.4", "DPTCH, FILL L", "integer multiple of 16", SAME },
-      BH_FILL_L, DESTINATION, false, 2, { 1, 1, 0 }, { 0 } },
+      BH_FILL_L, DESTINATION, NOTHING, 2, { 1, 1, 0 }, { 0 } },
     { { "004", "5.1.4", "DPTCH, FILL L, DX=1", "unconstrained for DX=1", "1.14" },
-      BH_FILL_L, DESTINATION, false, 1, { 1, 1, 1 }, { 1, 1, 0 } },
+      BH_FILL_L, DESTINATION, NOTHING, 1, { 1, 1, 1 }, { 1, 1, 0 } },
     { { "004", "5.1.4", "DPTCH, FILL XY", "power of two", SAME },
-      BH_FILL_XY, DESTINATION, false, 2, { 1, 0, 0 }, { 0 } },
+      BH_FILL_XY, DESTINATION, NOTHING, 2, { 1, 0, 0 }, { 0 } },
     { { "004", "5.1.4", "DPTCH, PIXBLT B,L", "integer multiple of 16", SAME },
-      BH_PIXBLT_B_L, DESTINATION, false, 2, { 1, 1, 0 }, { 0 } },
+      BH_PIXBLT_B_L, DESTINATION, NOTHING, 2, { 1, 1, 0 }, { 0 } },
     { { "004", "5.1.4", "DPTCH, PIXBLT B,XY", "unconstrained otherwise", "1.16" },
-      BH_PIXBLT_B_XY, DESTINATION, false, 2, { 1, 1, 0 }, { 1, 0, 0 } },
+      BH_PIXBLT_B_XY, DESTINATION, NOTHING, 2, { 1, 1, 0 }, { 1, 0, 0 } },
     { { "004", "5.1.4", "DPTCH, PIXBLT B,XY, clipped", "power of two for windowing", SAME },
-      BH_PIXBLT_B_XY, DESTINATION, true, 2, { 1, 0, 0 }, { 0 } },
+      BH_PIXBLT_B_XY, DESTINATION, CLIPPING, 2, { 1, 0, 0 }, { 0 } },
     { { "004", "5.1.4", "DPTCH, PIXBLT L,L", "integer multiple of 16", SAME },
-      BH_PIXBLT_L_L, DESTINATION, false, 2, { 1, 1, 0 }, { 0 } },
+      BH_PIXBLT_L_L, DESTINATION, NOTHING, 2, { 1, 1, 0 }, { 0 } },
+    { { "004", "5.1.4", "DPTCH, PIXBLT L,L, PBV=1", "pitches that are not powers of two", SAME },
+      BH_PIXBLT_L_L, DESTINATION, LOWER_LEFT, 2, { 1, 1, 0 }, { 0 } },
     { { "004", "5.1.4", "DPTCH >00010AFC, PIXBLT L,L (example)", "Unconstrained value", "2.13" },
-      BH_PIXBLT_L_L, DESTINATION, false, 2, { NOT_PRINTED, NOT_PRINTED, 1 }, { 1, 1, 0 } },
+      BH_PIXBLT_L_L, DESTINATION, NOTHING, 2, { NOT_PRINTED, NOT_PRINTED, 1 }, { 1, 1, 0 } },
     { { "004", "5.1.4", "DPTCH, PIXBLT L,XY", "power of two", SAME },
-      BH_PIXBLT_L_XY, DESTINATION, false, 2, { 1, 0, 0 }, { 0 } },
+      BH_PIXBLT_L_XY, DESTINATION, NOTHING, 2, { 1, 0, 0 }, { 0 } },
     { { "004", "5.1.4", "DPTCH, PIXBLT XY,L (example >00001000)", "unconstrained otherwise", SAME },
-      BH_PIXBLT_XY_L, DESTINATION, false, 2, { 1, 1, 0 }, { 0 } },
+      BH_PIXBLT_XY_L, DESTINATION, NOTHING, 2, { 1, 1, 0 }, { 0 } },
+    { { "004", "5.1.4", "DPTCH, PIXBLT XY,L, PBV=1", "power of two for PBV = 1", "1.15" },
+      BH_PIXBLT_XY_L, DESTINATION, LOWER_LEFT, 2, { 1, 0, 0 }, { 1, 1, 0 } },
     { { "004", "5.1.4", "DPTCH, PIXBLT XY,XY", "power of two", SAME },
-      BH_PIXBLT_XY_XY, DESTINATION, false, 2, { 1, 0, 0 }, { 0 } },
+      BH_PIXBLT_XY_XY, DESTINATION, NOTHING, 2, { 1, 0, 0 }, { 0 } },
     { { "003", "4.2.3", "display pitch, XY", "must be a power of two", SAME },
-      BH_FILL_XY, DESTINATION, false, 2, { 1, 0, 0 }, { 0 } },
+      BH_FILL_XY, DESTINATION, NOTHING, 2, { 1, 0, 0 }, { 0 } },
     { { "003", "4.2.3", "display pitch, linear", "a multiple of 16", SAME },
-      BH_FILL_L, DESTINATION, false, 2, { 1, 1, 0 }, { 0 } },
+      BH_FILL_L, DESTINATION, NOTHING, 2, { 1, 1, 0 }, { 0 } },
     { { "003", "4.4", "source pitch, PIXBLT B,XY", "may be any value", SAME },
-      BH_PIXBLT_B_XY, SOURCE, false, 2, { 1, 1, 1 }, { 0 } },
+      BH_PIXBLT_B_XY, SOURCE, NOTHING, 2, { 1, 1, 1 }, { 0 } },
     { { "003", "4.4", "source pitch, PIXBLT B,XY, clipped", "must .. power of two", "1.15" },
-      BH_PIXBLT_B_XY, SOURCE, true, 2, { 1, 0, 0 }, { 1, 1, 1 } },
+      BH_PIXBLT_B_XY, SOURCE, CLIPPING, 2, { 1, 0, 0 }, { 1, 1, 1 } },
     { { "003", "4.4", "source pitch, PIXBLT L,XY, clipped", "must .. power of two", "1.15" },
-      BH_PIXBLT_L_XY, SOURCE, true, 2, { 1, 0, 0 }, { 1, 1, 0 } },
+      BH_PIXBLT_L_XY, SOURCE, CLIPPING, 2, { 1, 0, 0 }, { 1, 1, 0 } },
+    { { "003", "4.4", "source pitch, PIXBLT L,XY, PBV=1", "must .. power of two", "1.15" },
+      BH_PIXBLT_L_XY, SOURCE, LOWER_LEFT, 2, { 1, 0, 0 }, { 1, 1, 0 } },
     { { "000", "13.3.2", "DPTCH of a FILL one pixel wide", "may be any value", "1.14" },
-      BH_FILL_L, DESTINATION, false, 1, { 1, 1, 1 }, { 1, 1, 0 } },
+      BH_FILL_L, DESTINATION, NOTHING, 1, { 1, 1, 1 }, { 1, 1, 0 } },
     { { "000", "13.4.2", "DPTCH, PIXBLT L,L", "constrained to be a power of two", "2.11" },
-      BH_PIXBLT_L_L, DESTINATION, false, 2, { 1, 0, 0 }, { 1, 1, 0 } },
+      BH_PIXBLT_L_L, DESTINATION, NOTHING, 2, { 1, 0, 0 }, { 1, 1, 0 } },
     { { "000", "13.5.2", "DPTCH, PIXBLT B,L", "a multiple of 16 for binary PIXBLTs", SAME },
-      BH_PIXBLT_B_L, DESTINATION, false, 2, { 1, 1, 0 }, { 0 } },
+      BH_PIXBLT_B_L, DESTINATION, NOTHING, 2, { 1, 1, 0 }, { 0 } },
 };
 
 /* 1 where the drawing is done, 0 where its pitch is refused, NOT_PRINTED otherwise. */
 static uint64_t allowed(const struct pitch_row *row, uint32_t pitch)
 {
     bool xy = row->operation == BH_PIXBLT_XY_L || row->operation == BH_PIXBLT_XY_XY;
-    struct settings s = { .SADDR = xy ? XY(0, 64) : 0x80000, .SPTCH = 0x1000, .DPTCH = 0x1000,
-                          .WSTART = XY(0, row->clipped), .WEND = XY(100, 100),
-                          .DYDX = XY(row->dx, 2), .PSIZE = 4,
-                          .CONTROL = CONTROL_OF(REPLACE, row->clipped ? 3 : 0, 0) };
+    bool clipped = row->moved_by == CLIPPING;
+    struct settings s = { .SADDR = xy ? XY(0, 64) : 0x80000, .SPTCH = 0x1000,
+                          .DADDR = row->operation == BH_PIXBLT_L_L ? 0x40000 : 0, .DPTCH = 0x1000,
+                          .WSTART = XY(0, clipped), .WEND = XY(100, 100), .DYDX = XY(row->dx, 2),
+                          .PSIZE = 4, .CONTROL = CONTROL_OF(REPLACE, clipped ? 3 : 0, 0) };
+    if (row->moved_by == LOWER_LEFT)
+        s.CONTROL |= PBV;
     if (row->which == SOURCE)
         s.SPTCH = pitch;
     else
         s.DPTCH = pitch;
     struct drawing r = draw(row->operation, &s, 0);
-    if (r.answer == 0 && r.visited == row->dx * (row->clipped ? 1 : 2))
+    if (r.answer == 0 && r.visited == row->dx * (clipped ? 1 : 2))
         return 1;
     return r.answer == BH_BAD_PITCH ? 0 : NOT_PRINTED;
 }

@@ -31,6 +31,15 @@ void put_pixel(uint16_t *words, uint32_t address, uint32_t psize, uint32_t value
         (uint16_t)((words[address / 16] & ~mask) | (value << address % 16 & mask));
 }
 
+uint64_t lowest_drawn(uint32_t psize)
+{
+    for (uint64_t a = 0; a < 16 * (uint64_t)MEMORY_WORDS; a += psize) {
+        if (pixel_at(memory, (uint32_t)a, psize) != 0)
+            return a;
+    }
+    return NOT_PRINTED;
+}
+
 uint32_t bits_of(const char *row, char letter)
 {
     uint32_t bits = 0;

@@ -1,15 +1,8 @@
-/* Drawings: the worked examples of 000 sections 13.3 to 13.5, and 002 section 7.2. */
+/* Drawings: the worked examples of 000 sections 13.3 to 13.5, the registers at the end (004 section
+   5.1.4), a preclipped source and DRAV (002 sections 7.10.3 and 7.4). */
 #include "figures.h"
 
 /* ---- The arrays of the timing examples ---- */
-
-/* Example 13-6, and 13-7 to 13-9. SADDR of the latter is printed as >Q003E2E8. */
-#define PIXBLT_XY_L                                                                                \
-    .SADDR = 0x003A00E6, .SPTCH = 0x800, .DADDR = 0x000030E8, .DPTCH = 0x800,                      \
-    .OFFSET = 0x00040000, .WSTART = 0, .WEND = 0x01000100, .DYDX = 0x000F0036, .PSIZE = 4
-#define PIXBLT_B_XY                                                                                \
-    .SADDR = 0x0003E2E8, .SPTCH = 0x00AD0, .DADDR = 0x0032010B, .DPTCH = 0x800,                    \
-    .OFFSET = 0x00040000, .WSTART = 0, .WEND = 0x01000100, .DYDX = 0x000A000A, .PSIZE = 8
 
 /* Numbers: answer, pixels, rows (L), pixels in a row (M), words in a row (N), and whether the
    leading and the trailing edge are word aligned (alignment C is 0 1, alignment D is 0 0). */
@@ -21,61 +14,50 @@ static const struct array_row {
     struct figure figure;
     uint32_t operation;
     struct settings settings;
-    uint64_t printed[ARRAY_NUMBERS], scope[ARRAY_NUMBERS];
+    uint64_t printed[ARRAY_NUMBERS];
 } array_rows[] = {
     { { "000", "13.3.3", "example 13-1, FILL XY, replace", "795 pixels, L=15, M=53, N=14, C",
         SAME },
       BH_FILL_XY, { FILL_XY, .CONTROL = CONTROL_OF(0, 3, 0), .COLOR1 = 0xFFFF },
-      { 0, 795, 15, 53, 14, 0, 1 }, { 0 } },
+      { 0, 795, 15, 53, 14, 0, 1 } },
     { { "000", "13.3.3", "example 13-2, FILL XY, MAX", "795 pixels, L=15, M=53, N=14, C", SAME },
       BH_FILL_XY, { FILL_XY, .CONTROL = CONTROL_OF(20, 3, 0), .COLOR1 = 0xFFFF },
-      { 0, 795, 15, 53, 14, 0, 1 }, { 0 } },
+      { 0, 795, 15, 53, 14, 0, 1 } },
     { { "000", "13.3.3", "example 13-3, FILL XY, XNOR, T=1, plane masking",
         "795 pixels, L=15, M=53, N=14, C", SAME },
       BH_FILL_XY, { FILL_XY, .CONTROL = CONTROL_OF(5, 3, 1), .COLOR1 = 0, .PMASK = 0x1111 },
-      { 0, 795, 15, 53, 14, 0, 1 }, { 0 } },
-    { { "000", "13.3.2", "example 13-1 with PBH=1, PBV=1", "does not apply to FILLs", "1.18" },
-      BH_FILL_XY, { FILL_XY, .CONTROL = CONTROL_OF(0, 3, 0) | PBH | PBV, .COLOR1 = 0xFFFF },
-      { 0, 795, 15, 53, 14, 0, 1 }, { BH_BAD_CONTROL, 0, 0, 0, 0, 0, 0 } },
-    { { "000", "13.4.3", "example 13-6, PIXBLT XY,L, with PBH=PBV=0 (the same block)",
+      { 0, 795, 15, 53, 14, 0, 1 } },
+    { { "000", "13.3.2", "example 13-1 with PBH=1, PBV=1",
+        "Transfer direction does not apply to FILLs", SAME },
+      BH_FILL_XY, { FILL_XY, .CONTROL = CONTROL_OF(0, 3, 0) | LOWER_RIGHT, .COLOR1 = 0xFFFF },
+      { 0, 795, 15, 53, 14, 0, 1 } },
+    { { "000", "13.4.3", "example 13-6, PIXBLT XY,L, XNOR, T=1, plane masking, PBH=1, PBV=1",
         "810 pixels, L=15, 54 pixels, N=14, C", SAME },
-      BH_PIXBLT_XY_L, { PIXBLT_XY_L, .CONTROL = CONTROL_OF(5, 0, 1), .PMASK = 0x1111 },
-      { 0, 810, 15, 54, 14, 0, 1 }, { 0 } },
-    { { "000", "13.4.3", "example 13-6, PIXBLT XY,L, PBH=1, PBV=1",
-        "810 pixels, L=15, 54 pixels, N=14, C", "1.18" },
-      BH_PIXBLT_XY_L, { PIXBLT_XY_L, .CONTROL = CONTROL_OF(5, 0, 1) | PBH | PBV, .PMASK = 0x1111 },
-      { 0, 810, 15, 54, 14, 0, 1 }, { BH_BAD_CONTROL, 0, 0, 0, 0, 0, 0 } },
-    { { "000", "13.5.3", "example 13-7, PIXBLT B,XY, replace, with PBH=PBV=0 (they are ignored)",
+      BH_PIXBLT_XY_L,
+      { PIXBLT_XY_L, .CONTROL = CONTROL_OF(5, 0, 1) | LOWER_RIGHT, .PMASK = 0x1111 },
+      { 0, 810, 15, 54, 14, 0, 1 } },
+    { { "000", "13.5.3", "example 13-7, PIXBLT B,XY, replace, PBH=1, PBV=1 (ignored)",
         "100 pixels, L=10, 10 wide, N=6, D", SAME },
       BH_PIXBLT_B_XY,
-      { PIXBLT_B_XY, .CONTROL = CONTROL_OF(0, 0, 0), .COLOR0 = 0xFFFF, .COLOR1 = 0xFFFF },
-      { 0, 100, 10, 10, 6, 0, 0 }, { 0 } },
-    { { "000", "13.5.3", "example 13-8, PIXBLT B,XY, MAX, with PBH=PBV=0",
+      { PIXBLT_B_XY, .CONTROL = CONTROL_OF(0, 0, 0) | LOWER_RIGHT, .COLOR0 = 0xFFFF,
+        .COLOR1 = 0xFFFF },
+      { 0, 100, 10, 10, 6, 0, 0 } },
+    { { "000", "13.5.3", "example 13-8, PIXBLT B,XY, MAX, PBH=1, PBV=1 (ignored)",
         "100 pixels, L=10, 10 wide, N=6, D", SAME },
       BH_PIXBLT_B_XY,
-      { PIXBLT_B_XY, .CONTROL = CONTROL_OF(20, 0, 0), .COLOR0 = 0xFFFF, .COLOR1 = 0xFFFF },
-      { 0, 100, 10, 10, 6, 0, 0 }, { 0 } },
-    { { "000", "13.5.3", "example 13-9, PIXBLT B,XY, XNOR, T=1, plane masking, with PBH=PBV=0",
+      { PIXBLT_B_XY, .CONTROL = CONTROL_OF(20, 0, 0) | LOWER_RIGHT, .COLOR0 = 0xFFFF,
+        .COLOR1 = 0xFFFF },
+      { 0, 100, 10, 10, 6, 0, 0 } },
+    { { "000", "13.5.3",
+        "example 13-9, PIXBLT B,XY, XNOR, T=1, plane masking, PBH=1, PBV=1 (ignored)",
         "100 pixels, L=10, 10 wide, N=6, D", SAME },
-      BH_PIXBLT_B_XY, { PIXBLT_B_XY, .CONTROL = CONTROL_OF(5, 0, 1), .PMASK = 0x1111 },
-      { 0, 100, 10, 10, 6, 0, 0 }, { 0 } },
-    { { "000", "13.5.3", "example 13-7, PIXBLT B,XY, PBH=1, PBV=1", "(ignored)", "1.18" },
       BH_PIXBLT_B_XY,
-      { PIXBLT_B_XY, .CONTROL = CONTROL_OF(0, 0, 0) | PBH | PBV, .COLOR0 = 0xFFFF },
-      { 0, 100, 10, 10, 6, 0, 0 }, { BH_BAD_CONTROL, 0, 0, 0, 0, 0, 0 } },
+      { PIXBLT_B_XY, .CONTROL = CONTROL_OF(5, 0, 1) | LOWER_RIGHT, .PMASK = 0x1111 },
+      { 0, 100, 10, 10, 6, 0, 0 } },
     { { "004", "5.1.4", "DX = 65,535 at one bit", "may range up to 65,535", SAME },
       BH_FILL_L, { .DPTCH = 0, .DYDX = XY(65535, 1), .PSIZE = 1, .COLOR1 = 0xFFFF },
-      { 0, 65535, 1, 65535, 4096, 1, 0 }, { 0 } },
+      { 0, 65535, 1, 65535, 4096, 1, 0 } },
 };
-
-static uint64_t first_drawn(uint32_t psize)
-{
-    for (uint64_t a = 0; a < 16 * (uint64_t)MEMORY_WORDS; a += psize) {
-        if (pixel_at(memory, (uint32_t)a, psize) != 0)
-            return a;
-    }
-    return NOT_PRINTED;
-}
 
 /* The pixels from an address on, one after the other, that aren't 0. */
 static uint64_t drawn_from(uint64_t start, uint32_t psize)
@@ -111,7 +93,7 @@ static uint64_t words_drawn(uint64_t start, uint64_t bits)
    apart. A row that isn't like the first one leaves fewer pixels in rows than were drawn. */
 static void survey(const struct settings *s, uint64_t got[ARRAY_NUMBERS])
 {
-    uint64_t start = first_drawn(s->PSIZE), rows = 0;
+    uint64_t start = lowest_drawn(s->PSIZE), rows = 0;
     if (start == NOT_PRINTED)
         return;
     uint64_t width = drawn_from(start, s->PSIZE);
@@ -139,7 +121,7 @@ static void run_array_rows(void)
         got[0] = r.answer;
         got[1] = r.visited;
         survey(&row->settings, got);
-        settle(&row->figure, array_what, ARRAY_NUMBERS, row->printed, row->scope, got);
+        settle(&row->figure, array_what, ARRAY_NUMBERS, row->printed, NULL, got);
     }
 }
 
@@ -185,7 +167,8 @@ static void run_font_pitch(void)
 
 /* ---- The registers at the end: 004 section 5.1.4 ---- */
 
-/* "the linear starting address of the row following the last row": worked from the operands. */
+/* "the linear starting address of the row following the last row": worked from the operands. A row
+   starts in the starting corner's column, and with PBV=1 the row after the last one lies above. */
 static const struct registers {
     struct figure figure;
     uint32_t operation;
@@ -193,14 +176,37 @@ static const struct registers {
     uint64_t budget;
     uint64_t printed[2], scope[2];
 } registers[] = {
-    { { "004", "5.1.4", "SADDR and DADDR after example 13-6", "row following the last row",
-        WORKED },
+    { { "004", "5.1.4", "SADDR and DADDR after example 13-6, PBH=0, PBV=0",
+        "row following the last row", WORKED },
       BH_PIXBLT_XY_L, { PIXBLT_XY_L }, UINT64_MAX,
       { 0x40000 + (58 + 15) * 0x800 + 230 * 4, 0x30E8 + 15 * 0x800 }, { 0 } },
-    { { "004", "5.1.4", "SADDR and DADDR after example 13-7", "row following the last row",
-        WORKED },
-      BH_PIXBLT_B_XY, { PIXBLT_B_XY }, UINT64_MAX,
+    { { "004", "5.1.4", "SADDR and DADDR after example 13-6, PBH=1, PBV=0",
+        "row following the last row", WORKED },
+      BH_PIXBLT_XY_L, { PIXBLT_XY_L, .CONTROL = PBH }, UINT64_MAX,
+      { 0x40000 + (58 + 15) * 0x800 + (230 + 53) * 4, 0x30E8 + 15 * 0x800 + 53 * 4 }, { 0 } },
+    { { "004", "5.1.4", "SADDR and DADDR after example 13-6, PBH=0, PBV=1",
+        "row following the last row", WORKED },
+      BH_PIXBLT_XY_L, { PIXBLT_XY_L, .CONTROL = PBV }, UINT64_MAX,
+      { 0x40000 + (58 - 1) * 0x800 + 230 * 4, 0x30E8 - 0x800 }, { 0 } },
+    { { "004", "5.1.4", "SADDR and DADDR after example 13-6, PBH=1, PBV=1",
+        "row following the last row", WORKED },
+      BH_PIXBLT_XY_L, { PIXBLT_XY_L, .CONTROL = LOWER_RIGHT }, UINT64_MAX,
+      { 0x40000 + (58 - 1) * 0x800 + (230 + 53) * 4, 0x30E8 - 0x800 + 53 * 4 }, { 0 } },
+    { { "004", "5.1.4", "SADDR and DADDR after PIXBLT L,L of 15 rows, PBH=1, PBV=1",
+        "row following the last row", WORKED },
+      BH_PIXBLT_L_L,
+      { .SADDR = 0x90000, .SPTCH = 0x400, .DADDR = 0x10AFC, .DPTCH = 0x800, .DYDX = 0x000F0036,
+        .PSIZE = 4, .CONTROL = LOWER_RIGHT }, UINT64_MAX,
+      { 0x90000 - 15 * 0x400, 0x10AFC - 15 * 0x800 }, { 0 } },
+    { { "004", "5.1.4", "SADDR and DADDR after example 13-7, PBH=1, PBV=1 (ignored)",
+        "row following the last row", WORKED },
+      BH_PIXBLT_B_XY, { PIXBLT_B_XY, .CONTROL = LOWER_RIGHT }, UINT64_MAX,
       { 0x3E2E8 + 10 * 0xAD0, 0x40000 + (50 + 10) * 0x800 + 267 * 8 }, { 0 } },
+    { { "002", "7.2.2", "SADDR and DADDR in the course of example 13-6, before its first pixel",
+        "automatically adjusted to the address of the corner", "1.19" },
+      BH_PIXBLT_XY_L, { PIXBLT_XY_L, .CONTROL = LOWER_RIGHT }, 0,
+      { 0x40000 + (58 + 14) * 0x800 + (230 + 53) * 4, 0x30E8 + 14 * 0x800 + 53 * 4 },
+      { 0x003A00E6, 0x30E8 } },
     { { "004", "5.1.4", "SADDR and DADDR of PIXBLT L,L, interrupted after two words of four",
         "points to the next word of pixels", "1.19" },
       BH_PIXBLT_L_L, { .SADDR = 0x1000, .DYDX = XY(4, 1), .PSIZE = 16 }, 2,
@@ -217,78 +223,28 @@ static void run_registers(void)
     }
 }
 
-/* ---- 002 figure 7-2: starting corners ---- */
-
-/* PIXBLT XY,XY of 3 by 2 pixels. Numbers: answer, column and row of the pixel that is processed
-   first, column and row of the one that is processed last. */
-static const struct corner {
-    struct figure figure;
-    uint32_t bits;
-    uint64_t printed[5], scope[5];
-} corners[] = {
-    { { "002", "7.2.2", "figure 7-2, PBH=0, PBV=0", "upper left first, lower right last", WORKED },
-      0, { 0, 0, 0, 2, 1 }, { 0 } },
-    { { "002", "7.2.2", "figure 7-2, PBH=1, PBV=0", "right to left", "1.18" },
-      PBH, { 0, 2, 0, 0, 1 },
-      { BH_BAD_CONTROL, NOT_PRINTED, NOT_PRINTED, NOT_PRINTED, NOT_PRINTED } },
-    { { "002", "7.2.2", "figure 7-2, PBH=0, PBV=1", "bottom to top", "1.18" },
-      PBV, { 0, 0, 1, 2, 0 },
-      { BH_BAD_CONTROL, NOT_PRINTED, NOT_PRINTED, NOT_PRINTED, NOT_PRINTED } },
-    { { "002", "7.2.2", "figure 7-2, PBH=1, PBV=1", "right to left, bottom to top", "1.18" },
-      PBH | PBV, { 0, 2, 1, 0, 0 },
-      { BH_BAD_CONTROL, NOT_PRINTED, NOT_PRINTED, NOT_PRINTED, NOT_PRINTED } },
-};
-
-/* Column and row of the only drawn pixel, or of the only one that isn't. */
-static void find_pixel(bool drawn, uint64_t got[2])
-{
-    for (uint32_t row = 0; row < 2; row++) {
-        for (uint32_t column = 0; column < 3; column++) {
-            if ((pixel_at(memory, row * 0x800 + column * 4, 4) != 0) == drawn) {
-                got[0] = column;
-                got[1] = row;
-            }
-        }
-    }
-}
-
-static void run_corners(void)
-{
-    for (size_t i = 0; i < COUNT_OF(corners); i++) {
-        const struct settings s = { .SADDR = XY(0, 8), .SPTCH = 0x800, .DPTCH = 0x800,
-                                    .DYDX = XY(3, 2), .PSIZE = 4, .CONTROL = corners[i].bits };
-        uint64_t got[5] = { 0, 0, 0, 0, 0 };
-        clear_memory();
-        for (uint32_t row = 8; row < 10; row++)
-            memory[row * 0x800 / 16] = 0xFFFF;
-        draw_slice(BH_PIXBLT_XY_XY, &s, 0, 0, 1);
-        find_pixel(true, got + 1);
-        draw_slice(BH_PIXBLT_XY_XY, &s, 1, 0, 4);
-        find_pixel(false, got + 3);
-        got[0] = draw_slice(BH_PIXBLT_XY_XY, &s, 5, 0, 1).answer;
-        settle(&corners[i].figure, "answer, first column, row, last column, row", 5,
-               corners[i].printed, corners[i].scope, got);
-    }
-}
-
 /* ---- 002 section 7.10.3: the source is preclipped ---- */
 
-/* The array of 000 section 13.3.3 from a linear source: 7 columns and 5 rows are clipped away. */
+/* The array of 000 section 13.3.3 from a linear source: 7 columns and 5 rows are clipped away. The
+   numbers are those of the first corner that isn't as awaited, or else of the last. */
 static void run_preclipped(void)
 {
     const struct figure figure = { "002", "7.10.3", "source of 000 section 13.3.3's array, W=3",
                                    "the source array is preclipped", WORKED };
-    const struct settings s = { FILL_XY, .SADDR = 0x80000, .SPTCH = 0x100,
-                                .CONTROL = CONTROL_OF(REPLACE, 3, 0) };
+    struct settings s = { FILL_XY, .SADDR = 0x80000, .SPTCH = 0x100 };
     const uint64_t printed[2] = { 795, 795 };
-    uint64_t got[2] = { 0, 0 };
-    bh_fill_image(memory, MEMORY_WORDS, 1);
-    got[0] = draw(BH_PIXBLT_L_XY, &s, 0).visited;
-    for (uint32_t row = 5; row < 20; row++) {
-        for (uint32_t column = 7; column < 60; column++) {
-            uint32_t source = pixel_at(memory, 0x80000 + row * 0x100 + column * 4, 4);
-            uint32_t left = pixel_at(memory, (68 + row) * 0x800 + (228 + column) * 4, 4);
-            got[1] += left == source;
+    uint64_t got[2] = { 795, 795 };
+    for (uint32_t bits = 0; bits <= LOWER_RIGHT && agree(2, printed, got); bits += PBH) {
+        s.CONTROL = CONTROL_OF(REPLACE, 3, 0) | bits;
+        bh_fill_image(memory, MEMORY_WORDS, 1);
+        got[0] = draw(BH_PIXBLT_L_XY, &s, 0).visited;
+        got[1] = 0;
+        for (uint32_t row = 5; row < 20; row++) {
+            for (uint32_t column = 7; column < 60; column++) {
+                uint32_t source = pixel_at(memory, 0x80000 + row * 0x100 + column * 4, 4);
+                uint32_t left = pixel_at(memory, (68 + row) * 0x800 + (228 + column) * 4, 4);
+                got[1] += left == source;
+            }
         }
     }
     settle(&figure, "pixels, pixels like their source", 2, printed, NULL, got);
@@ -323,7 +279,6 @@ void drawing_figures(void)
     run_dimensions();
     run_font_pitch();
     run_registers();
-    run_corners();
     run_preclipped();
     run_drav_steps();
 }

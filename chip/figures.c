@@ -25,10 +25,10 @@ static const struct rule {
     { "1.11", "Refusal numbers: XY PIXT uses DPTCH in both directions" },
     { "1.13", "What is modelled, refusal 17: no address bit is dropped" },
     { "1.14", "Refusal numbers: 13, a linear pitch that is no multiple of 16, whatever DX" },
-    { "1.15", "Refusal numbers: 13 asks no power of two of a linear source, clipped or not" },
+    { "1.15", "Refusal numbers: 13 asks no power of two of a linear array, start moved or not" },
     { "1.16", "Refusal numbers: 13, an XY pitch that is no power of two, whatever W" },
     { "1.17", "Refusal numbers: rows may share bits" },
-    { "1.18", "Refusal numbers: 12, PBH or PBV is 1" },
+    { "1.18", "Request Eight: PIXBLT L,L is given the addresses of the corner pixels themselves" },
     { "1.19", "Arrays, windows and slices: stopped, the registers stay" },
     { "1.21", "Refusal numbers: 18, a field size outside 1 to 32" },
     { "2.7", "One pixel: PP 11 is not S and D" },
@@ -162,6 +162,7 @@ int main(void)
     address_figures();
     window_figures();
     drawing_figures();
+    corner_figures();
     timing_figures();
     cache_figures();
     listed_figures();

@@ -62,6 +62,9 @@ bool memory_is_clear(void);
 uint32_t pixel_at(const uint16_t *words, uint32_t address, uint32_t psize);
 void put_pixel(uint16_t *words, uint32_t address, uint32_t psize, uint32_t value);
 
+/* The lowest address of a pixel that isn't 0, or NOT_PRINTED where every one is. */
+uint64_t lowest_drawn(uint32_t psize);
+
 /* The bits at which a row of 16 letters has this one; the first letter is bit 15. */
 uint32_t bits_of(const char *row, char letter);
 
@@ -77,6 +80,9 @@ struct settings {
 #define PBV 0x200u
 #define CD 0x8000u
 
+/* The four choices of a corner are 0, PBH, PBV and LOWER_RIGHT, PBH apart. */
+#define LOWER_RIGHT (PBH | PBV)
+
 /* The pixel operations that have a name here. */
 enum { REPLACE = 0, AND = 1, XNOR = 5, OR = 8, XOR = 10, NOT_SOURCE_AND = 11, ADD = 16, ADDS = 17,
        SUB = 18, SUBS = 19, MAX = 20, MIN = 21 };
@@ -86,6 +92,14 @@ enum { REPLACE = 0, AND = 1, XNOR = 5, OR = 8, XOR = 10, NOT_SOURCE_AND = 11, AD
 #define FILL_XY                                                                                    \
     .DADDR = 0x004400E4, .DPTCH = 0x800, .OFFSET = 0, .WSTART = 0x004900EB, .WEND = 0x005F0140,    \
     .DYDX = 0x0014003C, .PSIZE = 4
+
+/* Those of example 13-6, and of 13-7 to 13-9. SADDR of the latter is printed as >Q003E2E8. */
+#define PIXBLT_XY_L                                                                                \
+    .SADDR = 0x003A00E6, .SPTCH = 0x800, .DADDR = 0x000030E8, .DPTCH = 0x800,                      \
+    .OFFSET = 0x00040000, .WSTART = 0, .WEND = 0x01000100, .DYDX = 0x000F0036, .PSIZE = 4
+#define PIXBLT_B_XY                                                                                \
+    .SADDR = 0x0003E2E8, .SPTCH = 0x00AD0, .DADDR = 0x0032010B, .DPTCH = 0x800,                    \
+    .OFFSET = 0x00040000, .WSTART = 0, .WEND = 0x01000100, .DYDX = 0x000A000A, .PSIZE = 8
 
 /* An XY address of two coordinates. */
 #define XY(x, y) (((uint32_t)(y) & 0xFFFF) << 16 | ((uint32_t)(x) & 0xFFFF))
@@ -123,7 +137,8 @@ void field_figures(void);   /* 003 section 4.1, 000 section 13.2, 004 sections 5
 void pixel_figures(void);   /* 002 sections 7.5 to 7.9 */
 void address_figures(void); /* 003 sections 4.2 to 4.4, 004 section 5.1.4 */
 void window_figures(void);  /* 002 section 7.10 */
-void drawing_figures(void); /* 000 sections 13.3 to 13.5, 002 section 7.2 */
+void drawing_figures(void); /* 000 sections 13.3 to 13.5, 002 section 7.4 */
+void corner_figures(void);  /* 002 section 7.2.2, 000 sections 13.3 to 13.5 */
 void timing_figures(void);  /* 000 section 13.3 */
 void cache_figures(void);   /* 004 section 5.4 */
 void listed_figures(void);  /* what is not run */

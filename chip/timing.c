@@ -108,6 +108,21 @@ static void run_setups(void)
     settle(&note, "states more", 1, &printed, NULL, &more);
 }
 
+/* The table's columns under "Corner Adjust": each of the other setups, with PBH, PBV and both. */
+static void run_corner_setups(void)
+{
+    const struct figure figure = { "000", "13.3.1", "table 13-5, corner adjust",
+                                   "Corner adjust operations have no effect", SAME };
+    const uint64_t printed = 3 * COUNT_OF(setup_rows);
+    uint64_t got = 0;
+    for (size_t i = 0; i < COUNT_OF(setup_rows); i++) {
+        const struct setup_row *row = &setup_rows[i];
+        for (uint32_t bits = PBH; bits <= LOWER_RIGHT; bits += PBH)
+            got += setup_of(row, bits, row->printed) == row->printed;
+    }
+    settle(&figure, "setups as without", 1, &printed, NULL, &got);
+}
+
 /* ---- Rows ---- */
 
 /* A row of so many pixels that starts at this bit of a word. */
@@ -378,6 +393,7 @@ void timing_figures(void)
 {
     run_examples();
     run_setups();
+    run_corner_setups();
     run_formulas();
     run_graphics();
     run_adjustments();

@@ -257,19 +257,24 @@ static void run_disabled(void)
 /* ---- W=1: the common rectangle ---- */
 
 /* Numbers: DADDR and DYDX. 15 rows of 53 pixels are printed in 000 section 13.3.3, the window's
-   width and height come from the program in 004: WEND - WSTART + >10001. */
+   width and height come from the program in 004: WEND - WSTART + >10001. With PBH and PBV DADDR
+   still is what a PIXBLT of the reduced array is given: "the default starting addresses". */
 static const struct common {
     struct figure figure;
+    uint32_t bits;
     uint32_t daddr, dydx;
     uint64_t printed[2];
 } commons[] = {
     { { "002", "7.10.1", "W=1, DADDR and DYDX of 000 section 13.3.3", "the reduced array", SAME },
-      0x004400E4, 0x0014003C, { 0x004900EB, XY(53, 15) } },
+      0, 0x004400E4, 0x0014003C, { 0x004900EB, XY(53, 15) } },
+    { { "002", "7.10.1", "W=1, DADDR and DYDX of 000 section 13.3.3, PBH=1, PBV=1",
+        "the reduced array", WORKED },
+      LOWER_RIGHT, 0x004400E4, 0x0014003C, { 0x004900EB, XY(53, 15) } },
     { { "004", "5.1.4", "W=1, DADDR and DYDX of 000 section 13.3.3", "the common pixel block",
         SAME },
-      0x004400E4, 0x0014003C, { 0x004900EB, XY(53, 15) } },
+      0, 0x004400E4, 0x0014003C, { 0x004900EB, XY(53, 15) } },
     { { "004", "5.1.4", "DYDX of a window, by its program", "WEND - WSTART + >10001", SAME },
-      0x00000000, 0x01000200, { 0x004900EB, XY(0x140 - 0xEB, 0x5F - 0x49) + 0x10001 } },
+      0, 0x00000000, 0x01000200, { 0x004900EB, XY(0x140 - 0xEB, 0x5F - 0x49) + 0x10001 } },
 };
 
 static void run_commons(void)
@@ -279,7 +284,7 @@ static void run_commons(void)
         struct settings s = window;
         s.DADDR = commons[i].daddr;
         s.DYDX = commons[i].dydx;
-        s.CONTROL = CONTROL_OF(REPLACE, 1, 0);
+        s.CONTROL = CONTROL_OF(REPLACE, 1, 0) | commons[i].bits;
         for (size_t k = 0; k < COUNT_OF(xy_destinations); k++) {
             struct drawing r = draw(xy_destinations[k], &s, 0);
             got[0] = r.answer == 0 ? r.daddr : NOT_PRINTED;

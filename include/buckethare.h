@@ -13,7 +13,7 @@
          too large for its place
      10  the memory is empty or above 1,048,576 words
      11  PSIZE isn't 1, 2, 4, 8 or 16
-     12  PP (CONTROL bits 10-14) is above 21, or PBH (bit 8) or PBV (bit 9) is 1
+     12  PP (CONTROL bits 10-14) is above 21
      13  a pitch that is used is bad: of an XY array or a lone XY pixel not a power of two of at
          least 16, of a linear pixel array not a multiple of 16. DPTCH is used by a drawing and a
          lone XY pixel, SPTCH by a source of pixels
@@ -146,12 +146,20 @@ uint32_t bh_drav(uint16_t *memory, size_t words, const uint32_t *settings, size_
 #define BH_PIXBLT_B_L 6
 #define BH_PIXBLT_B_XY 7
 
+/* PBH (CONTROL bit 8) and PBV (bit 9) choose the corner from which PIXBLT L,L, L,XY, XY,L and XY,XY
+   walk: with PBH 1 each row from its right end, with PBV 1 the rows from the last one up. FILL,
+   PIXBLT B,L and B,XY, PIXT and DRAV ignore both. SADDR and DADDR of PIXBLT L,L are the addresses
+   of the corner's own pixels. Those of the other three name the upper left pixels. From these,
+   after clipping, the corner lies (rows - 1) x pitch further with PBV 1 and (columns - 1) x PSIZE
+   further with PBH 1, modulo 2^32, in source and destination each by its own pitch. */
+
 /* The results of a drawing are seven numbers: the new place, the pixels visited by this call, V (0
    or 1), window violation request (0 or 1), SADDR, DADDR and DYDX. Once a drawing that has pixels
-   is done, DADDR, and SADDR of a PIXBLT, are the linear address of the row after the array's last
-   one. With an XY destination and W 1 nothing is drawn, and where the array meets the window DADDR
-   and DYDX are the part of it that lies inside. In all other cases the registers are those of the
-   settings. */
+   is done, DADDR, and SADDR of a PIXBLT, are the linear address, in the corner's column, of the row
+   after the last one walked: the row above the array where PBV counts and is 1. With an XY
+   destination and W 1 nothing is drawn, and where the array meets the window DADDR and DYDX are the
+   part of it that lies inside, DADDR its upper left pixel. In all other cases the registers are
+   those of the settings. */
 #define BH_DRAW_RESULTS 7
 
 /* FILL or PIXBLT, one of the eight operations above, with the settings of PIXT and DRAV. place is
