@@ -14,10 +14,10 @@
    cell has. */
 #define PASSES 3
 
-#define GROUPS 6
+#define GROUPS 7
 
-static const struct group *const groups[GROUPS] = { &drawings, &narrow_arrays, &slices, &fields,
-                                                    &changed,  &plans };
+static const struct group *const groups[GROUPS] = { &drawings, &corners, &narrow_arrays, &slices,
+                                                    &fields,   &changed, &plans };
 
 static void print_lowest(const double *lowest)
 {

@@ -30,7 +30,7 @@ struct group {
     void (*print)(void);
 };
 
-extern const struct group drawings, narrow_arrays, slices, fields, changed, plans;
+extern const struct group drawings, corners, narrow_arrays, slices, fields, changed, plans;
 
 /* A table's head: what its numbers are, and its columns. */
 void print_head(const char *what, const char *const *columns, int count);

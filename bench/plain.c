@@ -1,5 +1,27 @@
 #include "plain.h"
 
+void plain_turn(struct plain_walk *walk, uint32_t control)
+{
+    if ((control & PLAIN_PBH) != 0)
+        walk->step = 0 - walk->step;
+    if ((control & PLAIN_PBV) != 0)
+        walk->pitch = 0 - walk->pitch;
+}
+
+void plain_to_corner(struct plain_walk *walk, uint32_t columns, uint32_t rows, uint32_t control)
+{
+    if ((control & PLAIN_PBH) != 0)
+        walk->start += (columns - 1) * walk->step;
+    if ((control & PLAIN_PBV) != 0)
+        walk->start += (rows - 1) * walk->pitch;
+    plain_turn(walk, control);
+}
+
+uint32_t plain_end(const struct plain_walk *walk, uint32_t rows)
+{
+    return walk->start + rows * walk->pitch;
+}
+
 /* The operation of PP on S and D, whose masked bits are 0. Bits of the result above the pixel or
    under the mask may be set: the caller takes them off. */
 static inline uint32_t operate(uint32_t pp, uint32_t top, uint32_t s, uint32_t d)
@@ -54,8 +76,8 @@ void plain_draw(uint16_t *memory, const struct plain_drawing *drawing)
     const struct plain_drawing d = *drawing;
     const uint32_t top = ((uint32_t)1 << d.psize) - 1;
     const uint32_t planes = ~d.pmask & 0xFFFF;
-    uint32_t to_row = d.destination;
-    uint32_t from_row = d.source;
+    uint32_t to_row = d.destination.start;
+    uint32_t from_row = d.source.start;
     for (uint32_t row = 0; row < d.rows; row++) {
         uint32_t to = to_row;
         uint32_t from = from_row;
@@ -67,11 +89,11 @@ void plain_draw(uint16_t *memory, const struct plain_drawing *drawing)
             const uint32_t result = operate(d.pp, top, s, (word >> shift) & keep) & keep;
             const uint32_t change = d.t & (result == 0) ? 0 : keep;
             memory[to >> 4] = (uint16_t)((word & ~(change << shift)) | result << shift);
-            to += d.psize;
-            from += d.step;
+            to += d.destination.step;
+            from += d.source.step;
         }
-        to_row += d.destination_pitch;
-        from_row += d.source_pitch;
+        to_row += d.destination.pitch;
+        from_row += d.source.pitch;
     }
 }
 

@@ -60,13 +60,63 @@ static struct part windowed(const struct part *whole, uint32_t w, const uint32_t
     return (struct part){ x.before, y.before, x.inside, y.inside, !all };
 }
 
+static struct part whole_of(const uint32_t *s)
+{
+    return (struct part){ 0, 0, s[DYDX] & 0xFFFF, s[DYDX] >> 16, 0 };
+}
+
 static struct part part_of(const struct form *form, const uint32_t *s)
 {
-    struct part whole = { 0, 0, s[DYDX] & 0xFFFF, s[DYDX] >> 16, 0 };
+    struct part whole = whole_of(s);
     uint32_t w = s[CONTROL] >> 6 & 3;
     if (!form->to_xy || w == 0 || whole.columns == 0 || whole.rows == 0)
         return whole;
     return windowed(&whole, w, s);
+}
+
+/* ---- The walks ---- */
+
+/* Puts the start that the settings give, after clipping. Is X or Y negative there? */
+static bool put_start(struct plain_walk *walk, bool xy, uint32_t at, uint32_t offset,
+                      const struct part *part)
+{
+    if (!xy) {
+        walk->start = at + part->above * walk->pitch + part->left * walk->step;
+        return false;
+    }
+    int32_t x = x_of(at) + (int32_t)part->left;
+    int32_t y = y_of(at) + (int32_t)part->above;
+    walk->start = offset + (uint32_t)y * walk->pitch + (uint32_t)x * walk->step;
+    return x < 0 || y < 0;
+}
+
+/* PBH and PBV count where the source is pixels. PIXBLT L,L is given the corner, the other three the
+   upper left pixel. */
+static void choose_corner(struct plain_walk *walk, const struct form *form, uint32_t control,
+                          const struct part *part)
+{
+    if (form->from != PLAIN_PIXELS)
+        return;
+    if (form->to_xy || form->from_xy)
+        plain_to_corner(walk, part->columns, part->rows, control);
+    else
+        plain_turn(walk, control);
+}
+
+/* Puts both walks. Is X or Y negative at a start that is given? */
+static bool put_walks(struct plain_drawing *drawing, const struct form *form, const uint32_t *s,
+                      const struct part *part)
+{
+    struct plain_walk *to = &drawing->destination, *from = &drawing->source;
+    to->pitch = s[DPTCH];
+    to->step = s[PSIZE];
+    from->pitch = s[SPTCH];
+    from->step = form->from == PLAIN_BITS ? 1 : s[PSIZE];
+    bool to_negative = put_start(to, form->to_xy, s[DADDR], s[OFFSET], part);
+    bool from_negative = put_start(from, form->from_xy, s[SADDR], s[OFFSET], part);
+    choose_corner(to, form, s[CONTROL], part);
+    choose_corner(from, form, s[CONTROL], part);
+    return to_negative || from_negative;
 }
 
 /* ---- The refusals ---- */
@@ -78,7 +128,7 @@ static bool bad_psize(uint32_t psize)
 
 static bool bad_control(uint32_t control)
 {
-    return (control >> 10 & 31) > 21 || (control & 0x300) != 0;
+    return (control >> 10 & 31) > 21;
 }
 
 static bool bad_pitch(bool xy, uint32_t pitch)
@@ -100,34 +150,22 @@ static bool bad_window(const struct form *form, const uint32_t *s)
     return left < 0 || top < 0 || x_of(s[WEND]) < left || y_of(s[WEND]) < top;
 }
 
-/* Is some pixel's address at the memory's end or above? A pitch above 2^31 walks down. */
-static bool past_end(size_t words, uint32_t start, uint32_t pitch, uint32_t step,
-                     const struct part *part)
+/* Is some pixel's address below 0, or at the memory's end or above? A pitch or a step above 2^31
+   walks down. */
+static bool past_end(size_t words, const struct plain_walk *walk, const struct part *part)
 {
-    int64_t last = start + (int64_t)(part->rows - 1) * (int32_t)pitch;
-    int64_t greatest = last < start ? start : last;
-    return last < 0 || greatest + (int64_t)(part->columns - 1) * step >= 16 * (int64_t)words;
+    int64_t last_row = (int64_t)(part->rows - 1) * (int32_t)walk->pitch;
+    int64_t last_column = (int64_t)(part->columns - 1) * (int32_t)walk->step;
+    int64_t down = (last_row < 0 ? last_row : 0) + (last_column < 0 ? last_column : 0);
+    int64_t up = last_row + last_column - down;
+    return walk->start + down < 0 || walk->start + up >= 16 * (int64_t)words;
 }
 
-/* Where an array starts, and whether X or Y is negative there. */
-struct start {
-    uint32_t address;
-    bool negative;
-};
-
-static struct start start_of(bool xy, uint32_t at, uint32_t offset, uint32_t pitch, uint32_t step,
-                             const struct part *part)
+/* Is a pixel array's start no multiple of PSIZE? A corner is one where the upper left pixel is. */
+static bool misaligned(const struct plain_drawing *drawing)
 {
-    if (!xy)
-        return (struct start){ at + part->above * pitch + part->left * step, false };
-    int32_t x = x_of(at) + (int32_t)part->left;
-    int32_t y = y_of(at) + (int32_t)part->above;
-    return (struct start){ offset + (uint32_t)y * pitch + (uint32_t)x * step, x < 0 || y < 0 };
-}
-
-static bool bad_start(const struct start *start, uint32_t psize)
-{
-    return start->negative || start->address % psize != 0;
+    return drawing->destination.start % drawing->psize != 0 ||
+           (drawing->from == PLAIN_PIXELS && drawing->source.start % drawing->psize != 0);
 }
 
 /* 11 to 14: what the settings alone decide. */
@@ -161,24 +199,37 @@ static uint64_t states_of(const struct plain_drawing *drawing, const struct form
     return form->from == PLAIN_COLOR ? plain_states(drawing, &setup) : 0;
 }
 
-/* 16 and 17 of a part that isn't empty, or 0 after it is drawn, and then its states. */
-static uint32_t draw_part(uint16_t *memory, size_t words, const struct form *form,
-                          const uint32_t *s, const struct part *part, uint64_t *states)
+/* The registers with W 1, where the array meets the window: the part of it that lies inside. */
+static void put_common(const uint32_t *s, struct plain_outcome *outcome)
 {
-    uint32_t step = form->from == PLAIN_BITS ? 1 : s[PSIZE];
-    struct start to = start_of(form->to_xy, s[DADDR], s[OFFSET], s[DPTCH], s[PSIZE], part);
-    struct start from = start_of(form->from_xy, s[SADDR], s[OFFSET], s[SPTCH], step, part);
-    if (bad_start(&to, s[PSIZE]) || (form->from == PLAIN_PIXELS && bad_start(&from, s[PSIZE])))
-        return 16;
-    if (past_end(words, to.address, s[DPTCH], s[PSIZE], part) ||
-        (form->from != PLAIN_COLOR && past_end(words, from.address, s[SPTCH], step, part)))
-        return 17;
-    const struct plain_drawing drawing = {
-        part->columns, part->rows, to.address, s[DPTCH], form->from, from.address, s[SPTCH], step,
-        s[PSIZE], s[CONTROL] >> 10 & 31, s[CONTROL] >> 5 & 1, s[PMASK], s[COLOR0], s[COLOR1]
+    struct part whole = whole_of(s);
+    struct part inside = windowed(&whole, 3, s);
+    uint32_t x = (uint32_t)x_of(s[DADDR]) + inside.left;
+    uint32_t y = (uint32_t)y_of(s[DADDR]) + inside.above;
+    outcome->daddr = y << 16 | x;
+    outcome->dydx = inside.rows << 16 | inside.columns;
+}
+
+/* 16 and 17 of a part that isn't empty, or 0 after it is drawn, and then its states and
+   registers. */
+static uint32_t draw_part(uint16_t *memory, size_t words, const struct form *form,
+                          const uint32_t *s, const struct part *part, struct plain_outcome *outcome)
+{
+    struct plain_drawing drawing = {
+        .columns = part->columns, .rows = part->rows, .from = form->from, .psize = s[PSIZE],
+        .pp = s[CONTROL] >> 10 & 31, .t = s[CONTROL] >> 5 & 1, .pmask = s[PMASK],
+        .color0 = s[COLOR0], .color1 = s[COLOR1]
     };
+    if (put_walks(&drawing, form, s, part) || misaligned(&drawing))
+        return 16;
+    if (past_end(words, &drawing.destination, part) ||
+        (form->from != PLAIN_COLOR && past_end(words, &drawing.source, part)))
+        return 17;
     plain_draw(memory, &drawing);
-    *states = states_of(&drawing, form, s, part);
+    outcome->states = states_of(&drawing, form, s, part);
+    outcome->daddr = plain_end(&drawing.destination, part->rows);
+    if (form->from != PLAIN_COLOR)
+        outcome->saddr = plain_end(&drawing.source, part->rows);
     return 0;
 }
 
@@ -192,10 +243,15 @@ struct plain_outcome plain_call(uint16_t *memory, size_t words, uint32_t draw,
     if (refusal != 0)
         return (struct plain_outcome){ .answer = refusal };
     struct part part = part_of(form, settings);
-    uint64_t pixels = (uint64_t)part.columns * part.rows, states = 0;
-    if (pixels != 0)
-        refusal = draw_part(memory, words, form, settings, &part, &states);
+    struct plain_outcome outcome = {
+        .visited = (uint64_t)part.columns * part.rows, .v = part.v,
+        .saddr = settings[SADDR], .daddr = settings[DADDR], .dydx = settings[DYDX]
+    };
+    if (outcome.visited != 0)
+        refusal = draw_part(memory, words, form, settings, &part, &outcome);
+    else if (part.v != 0 && (settings[CONTROL] >> 6 & 3) == 1)
+        put_common(settings, &outcome);
     if (refusal != 0)
         return (struct plain_outcome){ .answer = refusal };
-    return (struct plain_outcome){ 0, pixels, part.v, states };
+    return outcome;
 }

@@ -24,7 +24,7 @@ static const uint8_t adjustment[4] = { 0, 2, 2, 4 };
 
 uint64_t plain_states(const struct plain_drawing *drawing, const struct plain_setup *setup)
 {
-    const uint32_t first = drawing->destination & 15;
+    const uint32_t first = drawing->destination.start & 15;
     const uint32_t behind = first + drawing->columns * drawing->psize;
     const uint32_t words = (behind + 15) >> 4;
     const uint32_t length = words < 3 ? words - 1 : 2;

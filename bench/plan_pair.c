@@ -1,5 +1,6 @@
 #include "plan_pair.h"
 
+#include "plain_call.h"
 #include "work.h"
 
 #include <stdio.h>
@@ -107,11 +108,32 @@ static void run_block(const struct plan_pair *pair, uint64_t first, uint64_t cou
         stop(name, "the memories differ");
 }
 
+/* The registers after a point's drawing, which a listing doesn't have. */
+static void compare_registers(const struct plan_pair *pair, uint64_t point, const char *name)
+{
+    static uint16_t drawn[MOST_WORDS];
+    const struct plain_plan *plan = &pair->plain;
+    uint64_t values[PLAIN_NAMES], out[BH_DRAW_RESULTS];
+    uint32_t settings[BH_SETTINGS];
+    plain_experiment(plan, point, values);
+    for (int i = 0; i < BH_SETTINGS; i++)
+        settings[i] = (uint32_t)values[i];
+    struct plain_outcome plain = plain_call(drawn, plan->words, plan->draw, settings);
+    uint32_t answer = bh_outcome(plan->words, plan->draw, settings, BH_SETTINGS, 0, 0, UINT64_MAX,
+                                 out, BH_DRAW_RESULTS);
+    if (answer != plain.answer)
+        stop(name, "the answers of a drawing differ");
+    if (answer == 0 && (out[4] != plain.saddr || out[5] != plain.daddr || out[6] != plain.dydx))
+        stop(name, "the registers differ");
+}
+
 void run_both(const struct plan_pair *pair, const char *name)
 {
     uint64_t points = pair->results[PLAN_POINTS];
     for (uint64_t first = 0; first < points; first += BLOCK)
         run_block(pair, first, points - first < BLOCK ? points - first : BLOCK, name);
+    for (uint64_t point = 0; point < points; point++)
+        compare_registers(pair, point, name);
 }
 
 /* ---- Texts ---- */

@@ -22,7 +22,8 @@ uint32_t read_both(const struct plan_text *text, const char *name, struct plan_p
 /* Decodes all points of an accepted plan on both sides, and one more. */
 void decode_both(const struct plan_pair *pair, const char *name);
 
-/* Runs all points of an accepted plan on both sides: listing, image and memory must be the same. */
+/* Runs all points of an accepted plan on both sides: listing, image, memory and registers must be
+   the same. */
 void run_both(const struct plan_pair *pair, const char *name);
 
 /* Plan files, and a plan of modes for each drawing, are read and the accepted ones run on both

@@ -70,15 +70,27 @@ void fill_text(struct plan_text *text, int words, int side, int colors, int seed
     add_axis(text, "SEED", seeds);
 }
 
+/* PP 15 with W 0 to 3, of which W 2 has T, from each corner, and PP 22. */
+static void add_controls(struct plan_text *text)
+{
+    static const int modes[4] = { 0x3C00, 0x3C40, 0x3CA0, 0x3CC0 };
+    add(text, "axis\tCONTROL\t%d\t%d", 0x5800, 0x5B00);
+    for (int corner = 0; corner <= 0x300; corner += 0x100) {
+        for (int i = 0; i < 4; i++)
+            add(text, "\t%d", modes[i] | corner);
+    }
+    add(text, "\n");
+}
+
 void modes_text(struct plan_text *text, const char *draw)
 {
     start(text, 64, draw);
-    add(text, "axis\tSADDR\t0\t65535\t131077\n");
+    add(text, "axis\tSADDR\t0\t65535\t131075\t176\n");
     add(text, "axis\tSPTCH\t64\t48\t4294967264\n");
-    add(text, "axis\tDADDR\t65536\t65535\t131074\t256\n");
+    add(text, "axis\tDADDR\t65536\t65535\t131074\t192\n");
     add(text, "axis\tDPTCH\t64\t4294967232\t7\n");
     add(text, "axis\tWSTART\t65537\t2\t4294901760\n");
     add(text, "axis\tWEND\t131073\t196611\t2\n");
-    add(text, "axis\tDYDX\t131074\t262144\t327681\n");
-    add(text, "axis\tCONTROL\t15360\t15424\t15520\t15552\t22528\n");
+    add(text, "axis\tDYDX\t196611\t262144\t327681\n");
+    add_controls(text);
 }

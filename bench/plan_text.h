@@ -24,7 +24,8 @@ void largest_text(struct plan_text *text);
    the seeds are the fastest axis. */
 void fill_text(struct plan_text *text, int words, int side, int colors, int seeds);
 
-/* The named drawing in 64 words, with good and bad starts, pitches, windows, sizes and modes. */
+/* The named drawing in 64 words, with good and bad starts, pitches, windows, sizes and modes, from
+   each corner. */
 void modes_text(struct plan_text *text, const char *draw);
 
 #endif

@@ -23,7 +23,7 @@ struct sliced_work {
 
 static struct sliced_work sliced_of(int budget, int size)
 {
-    return (struct sliced_work){ work_of(&kinds[BH_FILL_L], &wide, sizes[size], 0, 0, 0),
+    return (struct sliced_work){ work_of(&kinds[BH_FILL_L], &wide, sizes[size], 0, 0),
                                  budgets[budget] };
 }
 

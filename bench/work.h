@@ -7,7 +7,8 @@
 
 #include <stdbool.h>
 
-/* The destination is in the first half of the memory, the source in the second. */
+/* The destination is in the first half of the memory, and the source in the second, but for a shape
+   over itself. */
 #define HALF 163840
 #define WORDS (2 * HALF)
 
@@ -22,7 +23,7 @@ void make_image(void);
 void restore(void);
 
 /* Ends the run with status 1 where the memory isn't the other one. */
-void same_or_stop(const char *what, uint32_t size, uint32_t pp);
+void same_or_stop(const char *what, uint32_t size, uint32_t control);
 
 struct kind {
     const char *name;
@@ -35,26 +36,31 @@ struct kind {
 
 extern const struct kind kinds[KINDS];
 
-/* gap is the bits behind each row of a linear array. */
+/* gap is the bits behind each row of a linear array. Over itself the source starts 20 pixels after
+   the destination. */
 struct shape {
     uint32_t columns, rows, gap;
+    bool over_itself;
 };
 
-/* Both have so many pixels. */
+/* All have so many pixels. */
 #define PIXELS 131072
 
-extern const struct shape wide, narrow;
+extern const struct shape wide, narrow, scrolled;
 
+/* saddr and daddr are the registers at the end. */
 struct work {
     uint32_t operation;
     uint32_t settings[BH_SETTINGS];
     struct plain_drawing plain;
+    uint32_t saddr, daddr;
 };
 
-struct work work_of(const struct kind *kind, const struct shape *shape, uint32_t psize, uint32_t pp,
-                    uint32_t t, uint32_t pmask);
+struct work work_of(const struct kind *kind, const struct shape *shape, uint32_t psize,
+                    uint32_t control, uint32_t pmask);
 
-/* The whole drawing in the memory: the library's answer must be 0. Both are given a struct work. */
+/* The whole drawing in the memory: the library's answer must be 0, and its registers the work's.
+   Both are given a struct work. */
 void draw_library(const void *work);
 void draw_plain(const void *work);
 
