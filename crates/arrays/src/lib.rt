@@ -115,8 +115,20 @@ fn step_of(source: Source, psize: u16) -> u32
     }
 }
 
-// An array's walk in the chosen order: PBH and PBV count for PIXBLTs of pixels.
+// An array's walk in the chosen order. Most walks are not turned: they cost a test.
 fn chosen_walk(op: Operation, s: Settings, c: Clipped, w: Walk) -> Walk
+    ensures { λ r. ⌜ r ≡ chosenWalk op s c w ⌝ }
+{
+    let right = control::right_to_left(s.control);
+    let bottom = control::bottom_to_top(s.control);
+    if right | bottom {
+        return turned_walk(op, s, c, w);
+    }
+    w
+}
+
+// The same from any corner: PBH and PBV count for PIXBLTs of pixels.
+fn turned_walk(op: Operation, s: Settings, c: Clipped, w: Walk) -> Walk
     ensures { λ r. ⌜ r ≡ chosenWalk op s c w ⌝ }
 {
     let pixels = operation::copies_pixels(operation::source_of(op));
@@ -128,7 +140,14 @@ fn chosen_walk(op: Operation, s: Settings, c: Clipped, w: Walk) -> Walk
     corner::turned(pixels & right, pixels & bottom, w)
 }
 
-// The destination's walk from its upper left start.
+// The destination's walk, as the drawing has it.
+pub fn dest_of(op: Operation, s: Settings, c: Clipped) -> Walk
+    ensures { λ r. ⌜ r ≡ drawingOf op s c .dest ⌝ }
+{
+    chosen_walk(op, s, c, dest_walk(op, s, c))
+}
+
+// The same from its upper left start.
 fn dest_walk(op: Operation, s: Settings, c: Clipped) -> Walk
     ensures { λ r. ⌜ r ≡ destWalk op s c ⌝ }
 {
@@ -140,7 +159,7 @@ fn dest_walk(op: Operation, s: Settings, c: Clipped) -> Walk
     }
 }
 
-// The source's.
+// The source's walk from its upper left start.
 fn src_walk(op: Operation, s: Settings, c: Clipped) -> Walk
     ensures { λ r. ⌜ r ≡ srcWalk op s c ⌝ }
 {
@@ -158,7 +177,7 @@ pub fn drawing_of(op: Operation, s: Settings, c: Clipped) -> Drawing
     ensures { λ r. ⌜ r ≡ drawingOf op s c ⌝ }
 {
     let source = operation::source_of(op);
-    let dest = chosen_walk(op, s, c, dest_walk(op, s, c));
+    let dest = dest_of(op, s, c);
     let src = chosen_walk(op, s, c, src_walk(op, s, c));
     let pp = control::processing(s.control);
     let t = control::transparency(s.control);

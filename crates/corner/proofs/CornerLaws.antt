@@ -71,7 +71,8 @@ module _ (pbh pbv : Bool) (cols rows : ℕ) (w : Walk) where
 pub walked-multiple : (falls : Bool) (k x : ℕ) → k ≤ 4 → x % 2 ^ k ≡ 0 → walked falls x % 2 ^ k ≡ 0
 walked-multiple false k x h e = e
 walked-multiple true k x h e =
-    let y : x % 2 ^ 32 ≡ 2 ^ k * (x % 2 ^ 32 / 2 ^ k) = omega (arith, div-add-mod (x % 2 ^ 32) (2 ^ k), mod-pow-mod k 32 x (omega arith), e) in
+    let m : x % 2 ^ 32 % 2 ^ k ≡ 0 = mod-pow-mod k 32 x (omega arith) ∙ e in
+    let y : x % 2 ^ 32 ≡ 2 ^ k * (x % 2 ^ 32 / 2 ^ k) = omega (arith, div-add-mod (x % 2 ^ 32) (2 ^ k)) in
     let s : k + (32 - k) ≡ 32 = omega arith in
     let p : 2 ^ 32 ≡ 2 ^ k * 2 ^ (32 - k) = ap (λ (n : ℕ). 2 ^ n) (sym s) ∙ pow-add 2 k (32 - k) in
     mod-pow-mod k 32 (2 ^ 32 - x % 2 ^ 32) (omega arith)

@@ -52,22 +52,22 @@ fn fill_of(op: Operation, s: Settings) -> Fill
     ensures { λ r. ⌜ r ≡ fillOf op s ⌝ }
 {
     let c = arrays::clipped_array(op, s);
-    let d = arrays::drawing_of(op, s, c);
+    let dest = arrays::dest_of(op, s, c);
     let xy = operation::to_xy(op);
     let adjust = adjust_of(control::windowing(s.control), arrays::rectangle_of(s), c);
     let disabled = control::disabled(s.control);
     let pp = control::processing(s.control);
     let masked = is_masked(s);
-    let bits = row_bits(d.cols, s.psize);
+    let bits = row_bits(c.cols, s.psize);
     Fill {
         xy,
         adjust,
         disabled,
         pp,
         masked,
-        start: d.dest.start,
+        start: dest.start,
         bits,
-        rows: d.rows,
+        rows: c.rows,
     }
 }
 

@@ -67,6 +67,9 @@ module _ (w : ℕ) (m : List ℕ) (g : Memory w m) (op : Operation) (s : Setting
       chosen : (bit falls : Bool) → bit ≡ falls → (copiesPixels (sourceOf op) && bit) ≡ falls
       chosen bit falls h = rw (ap copiesPixels pixelSource) h
 
+      abbrev step : Bool → Source → ℕ
+      step t k = walked t (stepOf k (s .psize))
+
       alike : (falls : Bool) → rightToLeft (s .control) ≡ falls → bottomToTop (s .control) ≡ falls → Alike falls
       unfolding drawingOf
       alike falls h v =
@@ -77,7 +80,7 @@ module _ (w : ℕ) (m : List ℕ) (g : Memory w m) (op : Operation) (s : Setting
             to-pitch = chosenWalk-pitch op s c (destWalk op s c) ∙ ap (λ (t : Bool). walked t (s .dptch)) bottom;
             from-pitch = chosenWalk-pitch op s c (srcWalk op s c) ∙ ap₂ walked bottom (scroll .pitches);
             to-step = chosenWalk-step op s c (destWalk op s c) ∙ ap (λ (t : Bool). walked t (s .psize)) right;
-            from-step = chosenWalk-step op s c (srcWalk op s c) ∙ ap₂ (λ (t : Bool) (k : Source). walked t (stepOf k (s .psize))) right pixelSource;
+            from-step = chosenWalk-step op s c (srcWalk op s c) ∙ ap₂ step right pixelSource;
           }
 
       small : 16 * w ≤ 2 ^ 24

@@ -71,7 +71,8 @@ module _ (pbh pbv : Bool) (cols rows : ℕ) where
       )
 
   number : (x left y above a b : ℕ) → In cols rows x left y above a b
-      → (i : ℕ) × (i < cols * rows) × (a ≡ x + (left + chosenIndex pbh cols (i % cols))) × (b ≡ y + (above + chosenIndex pbv rows (i / cols)))
+      → (i : ℕ) × (i < cols * rows)
+      × (a ≡ x + (left + chosenIndex pbh cols (i % cols))) × (b ≡ y + (above + chosenIndex pbv rows (i / cols)))
   number x left y above a b p =
       let found = number-of (a - (x + left)) (b - (y + above)) (omega arith) (omega arith) in
       (found .0, found .1, omega (arith, found .2), omega (arith, found .3))

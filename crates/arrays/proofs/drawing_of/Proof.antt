@@ -14,18 +14,16 @@ returns c =
     rw (
       t .transparency .ensures,
       pp .processing .ensures,
-      src .chosen-walk2 .ensures,
+      src .chosen-walk .ensures,
       src .before .src-walk .ensures,
-      dest .chosen-walk .ensures,
-      dest .before .dest-walk .ensures,
-      dest .before .before .source-of .ensures,
+      dest .dest-of .ensures,
+      dest .before .source-of .ensures,
     )
 
 pub drawing-of-spec : {M : Type 1} → statement M
 drawing-of-spec =
     tie.close
     (tie.spec
-    (λ c κs. search needs)
     (λ c κs. search needs)
     (λ c κs. search needs)
     (λ c κs. search needs)

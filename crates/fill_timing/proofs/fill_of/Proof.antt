@@ -6,14 +6,14 @@ use Rattle.fill_timing.proofs.fill_of.Statement.{statement}
 use Rattle.fill_timing.proofs.fill_of.Tie as tie
 
 returns : tie.Need-returns
-unfolding fillOf
+unfolding fillOf drawingOf
 returns c =
     let masked = c .before in
     let disabled = masked .before .before in
     let adjust = disabled .before in
     let rectangle = adjust .before in
     let xy = rectangle .before .before in
-    let d = xy .before in
+    let dest = xy .before in
     rw (
       c .row-bits .ensures,
       masked .is-masked .ensures,
@@ -23,8 +23,8 @@ returns c =
       rectangle .rectangle-of .ensures,
       rectangle .before .windowing .ensures,
       xy .to-xy .ensures,
-      d .drawing-of .ensures,
-      d .before .clipped-array .ensures,
+      dest .dest-of .ensures,
+      dest .before .clipped-array .ensures,
     )
 
 pub fill-of-spec : {M : Type 1} → statement M
