@@ -46,16 +46,18 @@ static void put(uint8_t *data, struct part p, uint64_t number)
         data[p.at + i] = (uint8_t)(number >> (8 * i));
 }
 
-/* One more or less in the low half or in the high one, twice or half, another's, or any. */
+/* One more or less in the low half or in the high one, twice or half, another's, another bit of the
+   low half, or any. */
 static uint64_t changed(const uint8_t *data, uint64_t number)
 {
-    switch (random64() % 8) {
+    switch (random64() % 9) {
     case 0: return number + 1;
     case 1: return number - 1;
     case 2: return number + 65536;
     case 3: return number - 65536;
     case 4: return random64() % 2 == 0 ? number * 2 : number / 2;
     case 5: return get(data, part_of(random64() % PARTS));
+    case 6: return number ^ (uint64_t)1 << random64() % 16;
     }
     return random_number();
 }

@@ -87,7 +87,9 @@ int main(int count, char **argument)
             continue;
         uint64_t points = plan_count(&p), seeds = points < MOST_POINTS ? points : MOST_POINTS;
         for (uint64_t k = 0; k < seeds; k++) {
-            if (!write_seed(argument[1], i - 1, k * points / seeds, &p)) {
+            /* not the same point of each part, so that the last axis has all its values */
+            uint64_t number = k * points / seeds + k % (points / seeds);
+            if (!write_seed(argument[1], i - 1, number, &p)) {
                 fprintf(stderr, "draw_seeds: cannot write into %s\n", argument[1]);
                 return 2;
             }

@@ -3,11 +3,12 @@
    compare [SEED] [COUNT] runs fixed edge cases and then COUNT random calls of everything but FILL
    and PIXBLT. compare draw [SEED] [COUNT] makes at least COUNT calls of these: drawings whole and
    in slices, refused calls, and pairs of drawings in slices (demand 3); with each its dry run and
-   the time of a FILL, and first the times of every short row. compare huge makes a few with the
-   largest arrays, for which the model takes half a minute. compare plans [SEED] [COUNT] compares
-   the listings and points of COUNT random plans. Each prints the seed, how often each answer was
-   given, and `compare: N calls, 0 differ`. At the first difference it prints the call with both
-   outcomes and ends with status 1. Each case is whole: it depends on no earlier call. */
+   the time of a FILL, and first the times of every short row and all corners of every small array.
+   compare huge makes a few with the largest arrays, for which the model takes half a minute.
+   compare plans [SEED] [COUNT] compares the listings and points of COUNT random plans. Each prints
+   the seed, how often each answer was given, and `compare: N calls, 0 differ`. At the first
+   difference it prints the call with both outcomes and ends with status 1. Each case is whole: it
+   depends on no earlier call. */
 #include "compare.h"
 
 #include <stdlib.h>

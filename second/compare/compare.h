@@ -87,10 +87,11 @@ void pixel_edges(void);
 void random_pixel_call(void);
 void print_pixel_answers(void);
 
-/* ---- FILL and PIXBLT (compare_drawings.c, compare_timing.c, compare_slices.c) ---- */
+/* ---- FILL and PIXBLT (compare_drawings.c and what compare_drawings.h names) ---- */
 
-/* Makes at least this many calls of bh_draw, each with its dry run and its time, and prints how
-   often each kind gave each answer. Of many calls each expected answer must have been given. */
+/* Makes at least this many calls of bh_draw beside those of every small array, each with its dry
+   run and its time, and prints how often each kind gave each answer. Of many calls each expected
+   answer must have been given. */
 void compare_drawings(uint64_t count);
 
 /* The largest arrays: the model takes half a minute. */

@@ -298,7 +298,7 @@ static uint64_t less_of(uint64_t number)
     return one_in(2) ? 0 : number / 2;
 }
 
-/* Some number of the case made less. */
+/* Some number of the case made less; CONTROL by its bits. */
 static void lessen(struct draw_case *c)
 {
     uint32_t place = random_below(BH_SETTINGS + 2);
@@ -307,6 +307,8 @@ static void lessen(struct draw_case *c)
         c->number[AT_DYDX] = rows << 16 | columns / 2;
     else if (place == AT_DYDX)
         c->number[AT_DYDX] = rows / 2 << 16 | columns;
+    else if (place == AT_CONTROL)
+        c->number[AT_CONTROL] &= one_in(2) ? random32() : ~((uint32_t)1 << random_below(16));
     else if (place < BH_SETTINGS)
         c->number[place] = (uint32_t)less_of(c->number[place]);
     else if (place == BH_SETTINGS)
@@ -318,7 +320,7 @@ static void lessen(struct draw_case *c)
 /* A smaller case that differs as well. */
 static struct draw_case smaller_case(struct draw_case c, const struct twin *m)
 {
-    for (int turn = 0; turn < 200; turn++) {
+    for (int turn = 0; turn < 400; turn++) {
         struct draw_case try = c;
         lessen(&try);
         if (pixels_of(&try) <= pixels_of(&c) && still_differs(&try, m))
@@ -358,6 +360,14 @@ static void stop_at(const struct draw_case *c, const struct twin *m)
 static void count_call(const struct draw_case *c, const struct draw_result *r,
                        const struct twin *m);
 
+/* The next call starts from the memory that this one leaves. */
+static struct draw_result go_on_from(const struct pair *p, struct twin *m)
+{
+    if (p->theirs.answer <= STOPPED && p->theirs.out[OUT_VISITED] > 0)
+        memcpy(m->before, m->mine, m->held * sizeof *m->mine);
+    return p->theirs;
+}
+
 struct draw_result compare_draw(const struct draw_case *c, struct twin *m)
 {
     struct pair p;
@@ -367,9 +377,16 @@ struct draw_result compare_draw(const struct draw_case *c, struct twin *m)
     count_call(c, &p.theirs, m);
     if (pixels_of(c) <= TAME_PIXELS)
         count_time(c, &p.their_time);
-    if (p.theirs.answer <= STOPPED && p.theirs.out[OUT_VISITED] > 0)
-        memcpy(m->before, m->mine, m->held * sizeof *m->mine);
-    return p.theirs;
+    return go_on_from(&p, m);
+}
+
+struct draw_result compare_uncounted(const struct draw_case *c, struct twin *m)
+{
+    struct pair p;
+    calls++;
+    if (!agree(c, m, &p))
+        stop_at(c, m);
+    return go_on_from(&p, m);
 }
 
 /* The model draws over words that no call looks at later. */
@@ -394,7 +411,6 @@ static void note(enum feature feature, bool there)
         had[feature]++;
 }
 
-/* Does a drawing read source bits that it writes? For small memories. */
 bool overlaps(const struct draw_case *c)
 {
     static uint8_t written[16 * 1024], read[16 * 1024];
@@ -441,11 +457,15 @@ static void note_budget(const struct draw_case *c, uint64_t n)
     note(WIDE_BUDGET, c->budget > UINT32_MAX && c->budget < UINT64_MAX);
 }
 
+static bool has_source(const struct draw_case *c)
+{
+    return copies_pixels(c->operation) || copies_bits(c->operation);
+}
+
 static void note_features(const struct draw_case *c, const struct twin *m)
 {
     uint64_t n = pixels_of(c);
     bool many_rows = n > 0 && c->number[AT_DYDX] >> 16 > 1;
-    bool copies = copies_pixels(c->operation) || copies_bits(c->operation);
     if (draws_to_xy(c->operation))
         note_window(c, n);
     note_budget(c, n);
@@ -453,8 +473,7 @@ static void note_features(const struct draw_case *c, const struct twin *m)
     note(SOME_MASK, c->number[AT_PMASK] != 0);
     note(FULL_MASK, c->number[AT_PMASK] == 0xFFFF);
     note(FALLING_DESTINATION, many_rows && c->number[AT_DPTCH] >= 0x80000000u);
-    note(FALLING_SOURCE, many_rows && copies && c->number[AT_SPTCH] >= 0x80000000u);
-    note(OVERLAP, copies && c->place == 0 && overlaps(c));
+    note(FALLING_SOURCE, many_rows && has_source(c) && c->number[AT_SPTCH] >= 0x80000000u);
     note(ONE_WORD, c->words == 1 && n > 0);
     note(ALL_WORDS, c->words == MOST_WORDS && n > 0);
     note(LAST_WORD, m->mine[c->words - 1] != m->before[c->words - 1]);
@@ -475,13 +494,16 @@ static void count_call(const struct draw_case *c, const struct draw_result *r,
                        const struct twin *m)
 {
     uint32_t kind = c->operation < OPERATIONS ? c->operation : OPERATIONS;
+    bool overlap = r->answer <= STOPPED && has_source(c) && c->place == 0 && overlaps(c);
     answered[kind][r->answer]++;
+    count_corner(c, r, m, overlap);
     if (r->answer > STOPPED)
         return;
     pixels_visited[kind] += r->out[OUT_VISITED];
     v_set[kind] += r->out[OUT_V];
     requests[kind] += r->out[OUT_REQUEST];
     note_features(c, m);
+    note(OVERLAP, overlap);
     if (r->out[OUT_VISITED] > 0) {
         uint32_t pp = c->number[AT_CONTROL] >> 10 & 31, t = c->number[AT_CONTROL] >> 5 & 1;
         drawn_with[kind][pp][size_index(c->number[AT_PSIZE])][t]++;
@@ -619,7 +641,7 @@ static void shape_edges(void)
     }
 }
 
-/* A linear array of many pixels, the rows on top of each other, or falling by a word. */
+/* A linear array of many pixels, from rows on top of each other where it has a source. */
 static struct draw_case many_pixels(uint32_t operation, uint32_t dydx, uint32_t dptch,
                                     uint32_t daddr)
 {
@@ -653,12 +675,14 @@ static void compare_places(struct draw_case c, struct twin *m)
 static void large_edges(void)
 {
     struct twin m = new_memory(MOST_WORDS);
-    struct draw_case c[3] = {
+    struct draw_case c[4] = {
         many_pixels(FILL_L, 65535u << 16 | 40, 0, 320),
         many_pixels(PIXBLT_B_L, 40u << 16 | 65535, 16, 0),
-        many_pixels(FILL_L, 65535u << 16 | 16, 0u - 16, 16u * MOST_WORDS - 16)
+        many_pixels(FILL_L, 65535u << 16 | 16, 0u - 16, 16u * MOST_WORDS - 16),
+        many_pixels(PIXBLT_L_L, 40u << 16 | 65535, 262144, 16u * MOST_WORDS - 1)
     };
-    for (int i = 0; i < 3; i++) {
+    c[3].number[AT_CONTROL] |= 3 << 8;
+    for (int i = 0; i < 4; i++) {
         compare_places(c[i], &m);
         compare_time(&c[i]);
     }
@@ -746,7 +770,10 @@ static int print_combinations(void)
 
 void compare_drawings(uint64_t count)
 {
+    bool enough = count >= ENOUGH;
     compare_timings();
+    compare_corners();
+    count += calls;
     figure_edges();
     shape_edges();
     large_edges();
@@ -759,9 +786,10 @@ void compare_drawings(uint64_t count)
     int missing = print_answers();
     missing += print_features();
     missing += print_combinations();
+    missing += print_corners();
     missing += print_slices();
     missing += print_timings();
-    if (missing > 0 && count >= ENOUGH) {
+    if (missing > 0 && enough) {
         printf("compare: %d of these never occurred\n", missing);
         stop();
     }

@@ -55,6 +55,9 @@ extern const char *const operation_name[OPERATIONS];
    stops the run where they differ in anything. */
 struct draw_result compare_draw(const struct draw_case *c, struct twin *m);
 
+/* The same, but what the call had isn't counted. */
+struct draw_result compare_uncounted(const struct draw_case *c, struct twin *m);
+
 /* The dry run alone, over any number of words: more than any memory has, too. */
 void compare_dry(const struct draw_case *c);
 
@@ -73,6 +76,9 @@ void print_result(const char *whose, const struct draw_result *r);
    Where there are none, the call has changed a setting. */
 void print_difference(const char *call, const char *const *name, int names,
                       const struct draw_result *mine, const struct draw_result *theirs);
+
+/* Does a drawing read source bits that it writes? For small memories. */
+bool overlaps(const struct draw_case *c);
 
 /* A memory of this many words with an image. It stands until the next one is made. */
 struct twin new_memory(uint64_t words);
@@ -93,8 +99,23 @@ bool draws_from_xy(uint32_t operation);
 bool copies_pixels(uint32_t operation);
 bool copies_bits(uint32_t operation);
 
-/* A drawing over a memory of this many words, at place 0, mostly one that is accepted. */
+/* The starting corners by number: PBH + 2 x PBV. */
+#define CORNERS 4
+
+uint32_t corner_of(const struct draw_case *c);
+
+/* A PIXBLT of pixels that starts at another corner than the upper left one. */
+bool is_turned(const struct draw_case *c);
+
+/* Another corner of the same array: of L,L the two starts move there. */
+void turn_drawing(struct draw_case *c, uint32_t corner);
+
+/* A drawing over a memory of this many words, at place 0, mostly one that is accepted. PBH or PBV
+   is 1 in two of three, whether they count or not. */
 struct draw_case random_drawing(uint64_t words);
+
+/* A pitch in whole numbers: from 2^31 on it falls. */
+int64_t rise_of(uint32_t pitch);
 
 /* The same drawing, as many words further up. */
 void move_drawing(struct draw_case *c, uint64_t words);
@@ -116,7 +137,7 @@ struct footprint {
 struct rectangle whole_array(const struct draw_case *c);
 struct rectangle drawn_part(const struct draw_case *c);
 
-/* The linear address at which that part starts. */
+/* The linear address of that part's upper left pixel, of L,L that of its corner. */
 uint32_t destination_start(const struct draw_case *c);
 
 /* The number of pixels in all. */
@@ -144,12 +165,24 @@ void compare_timings(void);
 /* Gives the number of things that never occurred. */
 int print_timings(void);
 
+/* ---- Starting corners (compare_corners.c) ---- */
+
+/* Every small array from all four corners. */
+void compare_corners(void);
+
+/* Counts a random call by its kind and corner; `overlap`: it reads source bits that it writes. */
+void count_corner(const struct draw_case *c, const struct draw_result *r, const struct twin *m,
+                  bool overlap);
+
+/* Counts a drawing of a pair. */
+void count_corner_in_pair(const struct draw_case *c);
+
+/* Gives the number of things that never occurred. */
+int print_corners(void);
+
 /* ---- Slices of two drawings (compare_slices.c) ---- */
 
 void compare_slices(void);
-
-/* Does a drawing read source bits that it writes? For small memories. */
-bool overlaps(const struct draw_case *c);
 
 /* Gives the number of things that never occurred. */
 int print_slices(void);

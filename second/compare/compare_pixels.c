@@ -29,11 +29,13 @@ struct pair {
 
 #define ANSWERS 20
 
-/* Of each form: answers by number, pixels visited, how often V came back as 1, requests. */
+/* Of each form: answers by number, pixels visited, how often V came back as 1, requests, and
+   accepted calls with PBH or PBV. */
 static uint64_t answered[FORMS][ANSWERS];
 static uint64_t pixels_visited[FORMS];
 static uint64_t v_set[FORMS];
 static uint64_t requests[FORMS];
+static uint64_t corners_ignored[FORMS];
 
 static uint32_t call_library(const struct pixel_case *c, const struct pair *m, uint32_t out[OUTS])
 {
@@ -100,11 +102,13 @@ static void print_pixel_case(const struct pixel_case *c, const struct pair *m,
     }
 }
 
-static void count_answer(enum form form, uint32_t answer, const uint32_t out[OUTS])
+static void count_answer(const struct pixel_case *c, uint32_t answer, const uint32_t out[OUTS])
 {
+    enum form form = c->form;
     answered[form][answer]++;
     if (answer == BH_SHORT)
         return;
+    corners_ignored[form] += answer == DONE && (c->number[AT_CONTROL] >> 8 & 3) != 0;
     pixels_visited[form] += out[0];
     v_set[form] += out[1];
     requests[form] += out[2];
@@ -121,7 +125,7 @@ static void compare_pixel(const struct pixel_case *c, const struct pair *m, cons
     bool bad = settings_are_bad(c->number, c->count) || c->length < BH_PIXEL_RESULTS;
     uint32_t model = bad ? 0 : call_model(c, m, result);
     uint32_t wanted = expect_out(expected, bad ? 0 : c->length, result, BH_PIXEL_RESULTS, model);
-    count_answer(c->form, wanted, expected);
+    count_answer(c, wanted, expected);
     if (answer == wanted && memcmp(out, expected, sizeof out) == 0
         && memcmp(lent.number, c->number, sizeof lent.number) == 0
         && memcmp(m->mine, m->theirs, m->held * sizeof *m->mine) == 0)
@@ -145,12 +149,11 @@ static uint32_t random_psize(void)
     return (uint32_t)1 << random_below(5);
 }
 
-/* PP, T and W of any value; at times a PP above 21, PBH or PBV. Unused bits are any. */
+/* T, W, PBH, PBV and the unused bits are any; PP is at times above 21. */
 static uint32_t random_drawing_control(void)
 {
     uint32_t pp = one_in(24) ? 22 + random_below(10) : random_below(22);
-    uint32_t corner = one_in(24) ? 1 + random_below(3) : 0;
-    return (random32() & 0x80FF) | corner << 8 | pp << 10;
+    return (random32() & 0x83FF) | pp << 10;
 }
 
 /* Mostly a power of two of at least 16; at times none, or a large one. */
@@ -392,8 +395,8 @@ void print_pixel_answers(void)
             if (answered[form][i] != 0)
                 printf(" %llu answers %d,", (unsigned long long)answered[form][i], i);
         }
-        printf(" %llu pixels, V set %llu, requests %llu\n",
+        printf(" %llu pixels, V set %llu, requests %llu, PBH or PBV %llu\n",
                (unsigned long long)pixels_visited[form], (unsigned long long)v_set[form],
-               (unsigned long long)requests[form]);
+               (unsigned long long)requests[form], (unsigned long long)corners_ignored[form]);
     }
 }

@@ -42,6 +42,7 @@ static const char *const way_name[WAYS] = { "in separate parts of the memory",
 
 static uint64_t pairs[WAYS];
 static uint64_t both_visit, both_change, share_words, slices, refusals, early_stops;
+static uint64_t one_turned, both_turned, other_corners;
 
 /* ---- Reporting ---- */
 
@@ -102,7 +103,7 @@ static void check_written(const struct job *j, const struct twin *m)
     uint16_t word[HELD] = { 0 };
     struct memory zeros = { word, j->whole.words };
     struct settings s = settings_of(j->whole.number);
-    s.CONTROL = (uint16_t)((s.CONTROL & 0xC0) | 12 << 10);
+    s.CONTROL = (uint16_t)((s.CONTROL & 0x3C0) | 12 << 10);
     draw(zeros, (enum operation)j->whole.operation, &s, 0, 0, UINT64_MAX);
     for (uint64_t i = 0; i < 16 * j->whole.words; i++) {
         if (bit_get(zeros, i) != j->written[i])
@@ -146,7 +147,7 @@ static void choose_apart(uint64_t words)
     move_drawing(&job[1].whole, first);
 }
 
-/* The same array twice, each drawing with the planes that the other masks. */
+/* The same array twice, from any corner, each drawing with the planes that the other masks. */
 static void choose_planes(uint64_t words)
 {
     job[0].whole = random_drawing(words);
@@ -158,6 +159,7 @@ static void choose_planes(uint64_t words)
     job[1].whole.v = random_below(2);
     uint32_t pp = random_below(22);
     job[1].whole.number[AT_CONTROL] = (job[1].whole.number[AT_CONTROL] & 0x83FF) | pp << 10;
+    turn_drawing(&job[1].whole, random_below(CORNERS));
 }
 
 static void choose_any(uint64_t words)
@@ -321,10 +323,23 @@ static bool shares_word(uint64_t words)
     return false;
 }
 
+static void count_corners(const struct draw_case *a, const struct draw_case *b)
+{
+    bool pixels = copies_pixels(a->operation) && copies_pixels(b->operation);
+    one_turned += is_turned(a) != is_turned(b);
+    both_turned += is_turned(a) && is_turned(b);
+    other_corners += pixels && corner_of(a) != corner_of(b);
+    count_corner_in_pair(a);
+    count_corner_in_pair(b);
+}
+
 static void count_pair(enum way way, uint64_t words)
 {
+    bool visit = pixels_of(&job[0].whole) > 0 && pixels_of(&job[1].whole) > 0;
     pairs[way]++;
-    both_visit += pixels_of(&job[0].whole) > 0 && pixels_of(&job[1].whole) > 0;
+    both_visit += visit;
+    if (visit)
+        count_corners(&job[0].whole, &job[1].whole);
     both_change += writes(&job[0]) && writes(&job[1]);
     share_words += shares_word(words);
 }
@@ -355,7 +370,8 @@ void compare_slices(void)
 
 int print_slices(void)
 {
-    int missing = both_change == 0 || share_words == 0 || refusals == 0 || early_stops == 0;
+    int missing = both_change == 0 || share_words == 0 || refusals == 0 || early_stops == 0
+                  || one_turned == 0 || both_turned == 0 || other_corners == 0;
     printf("pairs of drawings in slices, held against whole ones in both orders\n");
     for (int i = 0; i < WAYS; i++) {
         printf("%10llu  %s\n", (unsigned long long)pairs[i], way_name[i]);
@@ -364,6 +380,9 @@ int print_slices(void)
     printf("%10llu  of them both visit pixels, %llu both may write, %llu in one word\n",
            (unsigned long long)both_visit, (unsigned long long)both_change,
            (unsigned long long)share_words);
+    printf("%10llu  of these have one turned drawing, %llu two; %llu two different corners\n",
+           (unsigned long long)one_turned, (unsigned long long)both_turned,
+           (unsigned long long)other_corners);
     printf("%10llu  slices, %llu refused calls between, %llu times stopped on the way\n",
            (unsigned long long)slices, (unsigned long long)refusals,
            (unsigned long long)early_stops);

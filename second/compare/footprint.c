@@ -69,18 +69,28 @@ static void mark_pixel(const struct draw_case *c, struct footprint *f, uint32_t 
         f->read[from] = 1;
 }
 
+/* "PBH=1 walks each row from its right end, PBV=1 walks rows from the last one up. For L,L the
+   caller gives both starts as the address of the chosen corner's pixel itself": columns or rows lie
+   before it then. The others' starts are upper left ones, and the walk there and back visits the
+   same pixels in another order. */
+static bool lies_before(const struct draw_case *c, uint32_t bit)
+{
+    return c->operation == PIXBLT_L_L && (corner_of(c) & bit) != 0;
+}
+
 void find_footprint(const struct draw_case *c, struct footprint *f)
 {
     struct rectangle drawn = drawn_part(c);
     if (drawn.columns == 0 || drawn.rows == 0)
         return;
-    uint32_t destination = destination_start(c);
-    uint32_t source = source_start(c);
+    uint32_t destination = destination_start(c), source = source_start(c);
+    uint32_t dptch = c->number[AT_DPTCH], sptch = c->number[AT_SPTCH];
+    int64_t right = lies_before(c, 1) ? -1 : 1, down = lies_before(c, 2) ? -1 : 1;
     for (int64_t row = 0; row < drawn.rows; row++) {
         for (int64_t column = 0; column < drawn.columns; column++)
             mark_pixel(c, f,
-                       address_at(destination, row, c->number[AT_DPTCH], column,
+                       address_at(destination, down * row, dptch, right * column,
                                   c->number[AT_PSIZE]),
-                       address_at(source, row, c->number[AT_SPTCH], column, source_step(c)));
+                       address_at(source, down * row, sptch, right * column, source_step(c)));
     }
 }

@@ -18,6 +18,9 @@ static uint64_t drew[OPERATIONS], changed[OPERATIONS], v_set[OPERATIONS];
 /* Points that drew, by PP and pixel size (1, 2, 4, 8, 16). */
 static uint64_t drawn_with[22][5];
 
+/* Points that drew, by drawing and corner; of a PIXBLT of pixels more than one row and column. */
+static uint64_t drawn_from[OPERATIONS][CORNERS];
+
 enum feature {
     NO_AXIS,
     ALL_AXES,
@@ -119,12 +122,20 @@ static struct draw_case case_of(const struct plan *p, const struct settings *s)
     return c;
 }
 
+static void note_corner(const struct draw_case *c)
+{
+    struct rectangle drawn = drawn_part(c);
+    if (!copies_pixels(c->operation) || (drawn.columns > 1 && drawn.rows > 1))
+        drawn_from[c->operation][corner_of(c)]++;
+}
+
 static void note_drawing(const struct plan *p, const struct point_answer *point)
 {
     const struct settings *s = &point->settings;
     struct draw_case c = case_of(p, s);
     bool rows = s->DYDX >> 16 > 1, copies = !(p->op == FILL_L || p->op == FILL_XY);
     drawn_with[control_pp(s)][size_index(s->PSIZE)]++;
+    note_corner(&c);
     note(ONE_WORD, p->words == 1);
     note(WIDE_SEED, point->seed >> 32 > 0);
     note(SOME_MASK, s->PMASK != 0);
@@ -218,9 +229,25 @@ static int print_combinations(void)
     return missing;
 }
 
+/* The number of drawings and corners that no point had. */
+static int print_plan_corners(void)
+{
+    int missing = 0;
+    printf("%-13s %8s %8s %8s %8s\n", "points drew", "neither", "PBH", "PBV", "both");
+    for (uint32_t op = 0; op < OPERATIONS; op++) {
+        printf("%-13s", operation_name[op]);
+        for (int corner = 0; corner < CORNERS; corner++) {
+            printf(" %8llu", (unsigned long long)drawn_from[op][corner]);
+            missing += drawn_from[op][corner] == 0;
+        }
+        printf("\n");
+    }
+    return missing;
+}
+
 int print_plan_features(void)
 {
-    int missing = print_point_answers() + print_combinations();
+    int missing = print_point_answers() + print_plan_corners() + print_combinations();
     for (int i = 0; i < FEATURES; i++) {
         printf("%10llu  %s\n", (unsigned long long)had[i], feature_name[i]);
         missing += had[i] == 0;

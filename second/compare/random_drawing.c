@@ -29,7 +29,7 @@ struct part {
     uint32_t operation, psize, step; /* step: from one source pixel to the next */
     uint32_t columns, rows;
     uint32_t dpitch, spitch;
-    uint32_t destination, source;       /* linear starts */
+    uint32_t destination, source;       /* linear addresses of the upper left pixels */
     int64_t x, y;                       /* the destination's start */
     uint32_t left, above, right, below; /* what the array has beside, for the window to clip */
 };
@@ -71,8 +71,7 @@ static uint32_t random_linear_pitch(uint32_t rows, uint32_t unit)
     return unit * random_below(384 / unit);
 }
 
-/* A pitch from 2^31 on falls. */
-static int64_t rise_of(uint32_t pitch)
+int64_t rise_of(uint32_t pitch)
 {
     return pitch < 0x80000000u ? (int64_t)pitch : (int64_t)pitch - 4294967296;
 }
@@ -98,6 +97,7 @@ static bool has_room(const struct part *p, uint64_t words)
     return d.first <= d.last && (p->step == 0 || s.first <= s.last);
 }
 
+/* One pitch for both at times: a power of two where one of them must be. */
 static void random_pitches(struct part *p, uint64_t words)
 {
     p->dpitch = draws_to_xy(p->operation) ? random_xy_pitch(p->rows, words)
@@ -109,6 +109,12 @@ static void random_pitches(struct part *p, uint64_t words)
         p->spitch = random_linear_pitch(p->rows, 16);
     else if (copies_bits(p->operation))
         p->spitch = random_linear_pitch(p->rows, one_in(4) ? 16 : 1);
+    if (copies_pixels(p->operation) && one_in(3)) {
+        if (draws_to_xy(p->operation))
+            p->spitch = p->dpitch;
+        else
+            p->dpitch = p->spitch;
+    }
 }
 
 /* Columns, rows and pitches, made smaller until the memory has room. */
@@ -146,8 +152,8 @@ static uint32_t random_start(struct starts s, uint32_t unit)
     return (uint32_t)s.first + random_below(choices) * unit;
 }
 
-/* The source may be anywhere; at times it is close to the destination. A B source starts at any
-   bit. */
+/* The source may be anywhere; often it is some columns and a row or none from the destination. A B
+   source starts at any bit. */
 static void random_starts(struct part *p, uint64_t words)
 {
     struct starts d = starts_of(p, p->dpitch, p->psize, words);
@@ -158,7 +164,9 @@ static void random_starts(struct part *p, uint64_t words)
         return;
     p->source = random_start(s, p->step);
     int64_t close = (int64_t)p->destination + ((int64_t)random_below(9) - 4) * p->step;
-    if (one_in(3) && close >= s.first && close <= s.last)
+    if (one_in(2))
+        close = close + ((int64_t)random_below(3) - 1) * rise_of(p->spitch);
+    if (one_in(2) && close >= s.first && close <= s.last)
         p->source = (uint32_t)close;
 }
 
@@ -299,6 +307,37 @@ static void random_destination(struct part *p, uint32_t number[NUMBERS], uint32_
     number[AT_DYDX] = xy_number(p->left + p->columns + p->right, p->above + p->rows + p->below);
 }
 
+/* ---- Corners ---- */
+
+uint32_t corner_of(const struct draw_case *c)
+{
+    return c->number[AT_CONTROL] >> 8 & 3;
+}
+
+bool is_turned(const struct draw_case *c)
+{
+    return copies_pixels(c->operation) && corner_of(c) != 0;
+}
+
+/* How far the corner's pixel lies from the upper left one, in an array of this pitch. */
+static uint32_t way_to(uint32_t corner, const struct draw_case *c, uint32_t pitch)
+{
+    uint32_t columns = c->number[AT_DYDX] & 0xFFFF, rows = c->number[AT_DYDX] >> 16;
+    uint32_t right = (corner & 1) != 0 ? (columns - 1) * c->number[AT_PSIZE] : 0;
+    return right + ((corner & 2) != 0 ? (rows - 1) * pitch : 0);
+}
+
+void turn_drawing(struct draw_case *c, uint32_t corner)
+{
+    uint32_t *number = c->number, old = corner_of(c);
+    uint32_t dptch = number[AT_DPTCH], sptch = number[AT_SPTCH];
+    if (c->operation == PIXBLT_L_L) {
+        number[AT_DADDR] += way_to(corner, c, dptch) - way_to(old, c, dptch);
+        number[AT_SADDR] += way_to(corner, c, sptch) - way_to(old, c, sptch);
+    }
+    number[AT_CONTROL] = (number[AT_CONTROL] & ~(3u << 8)) | corner << 8;
+}
+
 /* ---- A drawing ---- */
 
 /* W=1 draws nothing, so it is rarer. */
@@ -349,6 +388,8 @@ struct draw_case random_drawing(uint64_t words)
         c.number[i] = random32();
     if (one_in(32))
         c.number[AT_DYDX] = c.number[AT_DYDX] & (one_in(2) ? 0xFFFF : 0xFFFF0000u);
+    if (!one_in(3))
+        turn_drawing(&c, 1 + random_below(CORNERS - 1));
     c.v = one_in(8) ? random32() : random_below(2);
     c.length = BH_DRAW_RESULTS + (one_in(8) ? random_below(DRAW_OUTS - BH_DRAW_RESULTS) : 0);
     return c;
@@ -388,14 +429,12 @@ static void spoil_psize(struct draw_case *c)
     c->number[AT_PSIZE] = one_in(8) ? random32() & 0xFFFF : odd[random_below(10)];
 }
 
-/* 12: PP above 21, PBH or PBV. */
+/* 12: PP above 21, with any PBH and PBV. */
 static void spoil_control(struct draw_case *c)
 {
     uint32_t *control = &c->number[AT_CONTROL];
-    if (one_in(2))
-        *control = (*control & ~(31u << 10)) | (22 + random_below(10)) << 10;
-    else
-        *control = *control | (1 + random_below(3)) << 8;
+    *control = (*control & ~(31u << 10)) | (22 + random_below(10)) << 10;
+    *control = *control ^ random_below(CORNERS) << 8;
 }
 
 /* 13: neither a multiple of 16 nor a power of two, or only one of these. */
@@ -456,13 +495,14 @@ static void spoil_start(struct draw_case *c)
     }
 }
 
-/* 17: fewer words, a start further on or before the memory, or more rows or columns. */
+/* 17: fewer words, a start further on or before the memory, more rows or columns, or for L,L the
+   address of another corner. */
 static void spoil_end(struct draw_case *c)
 {
     static const enum place places[3] = { AT_OFFSET, AT_DADDR, AT_SADDR };
     uint32_t *number = &c->number[places[random_below(3)]];
     uint32_t psize = c->number[AT_PSIZE];
-    uint32_t style = random_below(5);
+    uint32_t style = random_below(6);
     if (style == 0 && c->words > 1)
         c->words = c->words - 1 - random_below(one_in(2) ? 1 : (uint32_t)c->words - 1);
     else if (style == 1)
@@ -471,6 +511,8 @@ static void spoil_end(struct draw_case *c)
         *number = *number - psize * (1 + random_below(8));
     else if (style == 3)
         *number = one_in(2) ? 16 * (uint32_t)c->words - 16 : 0u - 16 * random_below(4);
+    else if (style == 4 && c->operation == PIXBLT_L_L)
+        c->number[AT_CONTROL] ^= (1 + random_below(CORNERS - 1)) << 8;
     else
         c->number[AT_DYDX] += one_in(2) ? 1 + random_below(9) : (1 + random_below(9)) << 16;
 }

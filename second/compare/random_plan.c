@@ -19,6 +19,7 @@ struct shape {
     uint32_t columns, rows; /* at most */
     uint32_t dpitch, spitch;
     bool dfalls, sfalls;    /* pitches near 2^32 */
+    uint32_t corner;        /* the one whose addresses the starts of L,L are */
     uint32_t offset;        /* at most, above the origin's rows */
     uint32_t origin;        /* rows by which OFFSET lies before the memory */
     bool clips;             /* arrays that start before the window, mostly with W=3 */
@@ -119,6 +120,8 @@ static void random_shape(struct shape *s)
     s->spitch = draws_from_xy(s->operation) ? power_pitch(most) : 16 * random_below(most / 16 + 1);
     s->dfalls = s->named[AT_DADDR] && !draws_to_xy(s->operation) && one_in(4);
     s->sfalls = s->named[AT_SADDR] && !draws_from_xy(s->operation) && one_in(4);
+    if (s->named[AT_CONTROL] && s->named[AT_SADDR] && s->named[AT_DADDR])
+        s->corner = random_below(CORNERS);
 }
 
 /* How far an array's start may be from the memory's start. */
@@ -142,12 +145,17 @@ static void random_origin(struct shape *s)
 
 /* ---- Values ---- */
 
-/* A linear start: a multiple of the largest pixel, or for bits any. */
+/* A linear start: a multiple of the largest pixel, or for bits any. Of L,L it is the corner of the
+   largest array. */
 static uint32_t linear_start(const struct shape *s, uint32_t pitch, uint32_t step, bool falls)
 {
     uint32_t reach = reach_of(s, pitch, step);
     uint32_t start = step * random_below(reach / step + 1);
-    return falls ? (s->rows - 1) * pitch + start : start;
+    bool is_corner = s->operation == PIXBLT_L_L;
+    bool up = is_corner && (s->corner & 2) != 0;
+    if (is_corner && (s->corner & 1) != 0)
+        start = start + (s->columns - 1) * step;
+    return falls != up ? (s->rows - 1) * pitch + start : start;
 }
 
 /* An XY start; at times before the window. */
@@ -182,10 +190,19 @@ static uint32_t pitch_value(uint32_t pitch, bool is_xy, bool falls)
     return falls ? 0u - pitch : pitch;
 }
 
+/* Any corner; of L,L mostly the one that the starts are for. */
+static uint32_t corner_value(const struct shape *s)
+{
+    if (s->operation == PIXBLT_L_L && !one_in(8))
+        return s->corner;
+    return random_below(CORNERS);
+}
+
 static uint32_t control_value(const struct shape *s)
 {
     static const uint32_t w[8] = { 0, 0, 0, 1, 2, 2, 3, 3 };
     uint32_t control = one_in(3) ? random32() & 0x801F : 0;
+    control |= corner_value(s) << 8;
     control |= one_in(3) ? 0 : random_below(22) << 10;
     control |= one_in(3) ? 1u << 5 : 0;
     if (s->clips && !one_in(4))
@@ -256,9 +273,7 @@ static uint64_t bad_value(const struct shape *s, int name)
     uint64_t value = good_value(s, name);
     switch (name) {
     case AT_PSIZE: return psize[random_below(8)];
-    case AT_CONTROL:
-        return one_in(2) ? (22 + random_below(10)) << 10 | (value & 0x83FF)
-                         : value | (1 + random_below(3)) << 8;
+    case AT_CONTROL: return (22 + random_below(10)) << 10 | (value & 0x83FF);
     case AT_SPTCH:
     case AT_DPTCH: return pitch[random_below(8)];
     case AT_WSTART:
