@@ -51,7 +51,7 @@ startX xy c = xOf xy + c .left
 abbrev pub startY : ℕ → Clipped → ℕ
 startY xy c = yOf xy + c .above
 
--- the upper left start of what is drawn of the destination
+-- where what is drawn of the destination starts: upper left, but for an L,L as given
 unfoldable pub destStart : Operation → Settings → Clipped → ℕ
 destStart op s c =
     cond (toXY op)
@@ -69,8 +69,8 @@ abbrev pub linearSource : Operation → Settings → Walk
 linearSource op s =
     record { start = s .saddr; pitch = s .sptch; step = stepOf (sourceOf op) (s .psize) }
 
--- the upper left start of its source: a linear start moves by the same columns and rows, a B source
--- by bits and SPTCH
+-- where its source starts: a linear start moves by the same columns and rows, a B source by bits
+-- and SPTCH
 unfoldable pub srcStart : Operation → Settings → Clipped → ℕ
 srcStart op s c =
     cond (fromXY op)
@@ -94,7 +94,7 @@ chosenWalk op s c w =
     let pbv = fromBottom op s in
     cond (walksToCorner op) (fromCorner pbh pbv (c .cols) (c .rows) w) (turned pbh pbv w)
 
--- the two arrays' walks from their upper left starts
+-- the two arrays from their starts, before an order is chosen
 abbrev pub destWalk : Operation → Settings → Clipped → Walk
 destWalk op s c = record { start = destStart op s c; pitch = s .dptch; step = s .psize }
 

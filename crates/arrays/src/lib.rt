@@ -68,7 +68,7 @@ pub fn start_y(xy: u32, c: Clipped) -> u32
     address::y_of(xy) as u32 + c.above as u32
 }
 
-// The upper left start of what is drawn of the destination.
+// Where what is drawn of the destination starts.
 fn dest_start(op: Operation, s: Settings, c: Clipped) -> u32
     ensures { λ r. ⌜ r ≡ destStart op s c ⌝ }
 {
@@ -80,7 +80,7 @@ fn dest_start(op: Operation, s: Settings, c: Clipped) -> u32
     s.daddr
 }
 
-// The upper left start of its source.
+// Where its source starts.
 fn src_start(op: Operation, s: Settings, c: Clipped) -> u32
     ensures { λ r. ⌜ r ≡ srcStart op s c ⌝ }
 {
@@ -147,7 +147,7 @@ pub fn dest_of(op: Operation, s: Settings, c: Clipped) -> Walk
     chosen_walk(op, s, c, dest_walk(op, s, c))
 }
 
-// The same from its upper left start.
+// The same before an order is chosen.
 fn dest_walk(op: Operation, s: Settings, c: Clipped) -> Walk
     ensures { λ r. ⌜ r ≡ destWalk op s c ⌝ }
 {
@@ -159,7 +159,7 @@ fn dest_walk(op: Operation, s: Settings, c: Clipped) -> Walk
     }
 }
 
-// The source's walk from its upper left start.
+// The source's walk before an order is chosen.
 fn src_walk(op: Operation, s: Settings, c: Clipped) -> Walk
     ensures { λ r. ⌜ r ≡ srcWalk op s c ⌝ }
 {

@@ -1,5 +1,6 @@
--- A drawing as a walk over pixels (the scope, "Arrays, windows and slices"): pixels are visited row
--- by row from the start, and each one reads memory as the ones before left it. Assumes nothing.
+-- A drawing as a walk over pixels (the scope, "Arrays, windows and slices"; request Eight): pixels
+-- are visited row by row from the start, in the chosen order, and each one reads memory as the ones
+-- before left it. Assumes nothing.
 use mathlib.Core.List.{List}
 use Prim.Native.Nat.{ℕ, zero, suc, _+_, _-_, min}
 use Rattle.walk.specs.Walk.{addressOf}

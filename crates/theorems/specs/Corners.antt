@@ -103,7 +103,7 @@ EndRegisters =
 
 -- ---- what ignores both bits
 
--- two CONTROLs with one T, W and PP; PBH and PBV may differ
+-- two CONTROLs with one T, W and PP: PBH and PBV may differ, and what no drawing reads
 pub record SameButCorner (c c′ : ℕ) : Type 0 where
   pub t : transparency c ≡ transparency c′
   pub w : windowing c ≡ windowing c′
