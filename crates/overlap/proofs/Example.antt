@@ -1,6 +1,6 @@
 -- That the hypotheses of a scroll can be met: the example from its lower right corner, whose source and destination overlap, and the
 -- old source in all it draws. No contract cites this file. Assumes nothing.
-use mathlib.Core.Path.{_≡_, refl}
+use mathlib.Core.Path.{refl}
 use mathlib.Core.Logic.{inr}
 use Prim.Native.Nat.{ℕ, zero, suc, _^_, _<_}
 use native.Mathlib.Omega.{arith}

@@ -1,8 +1,8 @@
 -- The pixels of an accepted drawing lie in the memory, each within one word, and keep to their bits. No contract cites
 -- this file. Assumes nothing.
-use mathlib.Core.Path.{_≡_, refl, ap}
+use mathlib.Core.Path.{_≡_, refl, ap, _∙_}
 use mathlib.Core.Bool.{Bool, true, false, not, _&&_, _||_, false≢true}
-use Prim.Native.Nat.{ℕ, _+_, _*_, _%_, _^_, _≤_, _<_}
+use Prim.Native.Nat.{ℕ, _+_, _*_, _/_, _%_, _^_, _≤_, _<_}
 use native.Mathlib.Omega.{arith}
 use borrow.Author.Tests.{eqb-true, ne-eqb, not-false}
 use Rattle.memory.proofs.Tests.{or-false-left, or-false-right}
@@ -10,10 +10,10 @@ use Rattle.pixel.specs.Pixel.{badPixelSize}
 use Rattle.pixel.proofs.SizeLaws.{by-size, aligned-fits}
 use Rattle.address.specs.Address.{misaligned}
 use Rattle.walk.specs.declared.Walk.{Walk}
-use Rattle.walk.specs.Walk.{addressOf}
+use Rattle.walk.specs.Walk.{addressAt, addressOf}
 use Rattle.walk.proofs.Arithmetic.{multiple-of-16}
 use Rattle.address.proofs.AddressLaws.{multiple-of-badXYPitch, multiple-of-badLinearPitch}
-use Rattle.walk.proofs.WalkLaws.{addressOf-multiple}
+use Rattle.walk.proofs.WalkLaws.{addressAt-residue}
 use Rattle.corner.specs.Corner.{walked}
 use Rattle.corner.proofs.CornerLaws.{walked-multiple}
 use Rattle.extent.specs.Extent.{leavesMemory}
@@ -54,27 +54,29 @@ walked-size falls =
     (walked-multiple falls 2 4 (omega arith) refl) (walked-multiple falls 3 8 (omega arith) refl)
     (walked-multiple falls 4 16 (omega arith) refl)
 
--- with a start and a step that are multiples of the pixel size, and a pitch that is one of 16, each pixel's address is one
-walk-multiple : (p : ℕ) → badPixelSize p ≡ false → (w : Walk) (cols i : ℕ) → misaligned p (w .start) ≡ false → w .pitch % 16 ≡ 0
-    → w .step % p ≡ 0 → addressOf w cols i % p ≡ 0
-walk-multiple p e w cols i h hp hw = sized p e (eqb-true (w .start % p) 0 (not-false _ h)) hw
+-- with a step that is a multiple of the pixel size, and a pitch that is one of 16, each address of a walk has its start's residue
+pub walk-residue : (p : ℕ) → badPixelSize p ≡ false → (w : Walk) (r c : ℕ) → w .pitch % 16 ≡ 0 → w .step % p ≡ 0
+    → addressAt w r c % p ≡ w .start % p
+walk-residue p e w r c hp = sized p e
   where
-    at : (k : ℕ) → k ≤ 4 → w .start % 2 ^ k ≡ 0 → w .step % 2 ^ k ≡ 0 → addressOf w cols i % 2 ^ k ≡ 0
-    at k hk hs hw = addressOf-multiple k w cols i hk hs (multiple-of-16 k (w .pitch) hk hp) hw
+    at : (k : ℕ) → k ≤ 4 → w .step % 2 ^ k ≡ 0 → addressAt w r c % 2 ^ k ≡ w .start % 2 ^ k
+    at k hk hw = addressAt-residue k w r c hk (multiple-of-16 k (w .pitch) hk hp) hw
 
-    sized : (p : ℕ) → badPixelSize p ≡ false → w .start % p ≡ 0 → w .step % p ≡ 0 → addressOf w cols i % p ≡ 0
+    sized : (p : ℕ) → badPixelSize p ≡ false → w .step % p ≡ 0 → addressAt w r c % p ≡ w .start % p
     sized =
-        by-size (λ p. w .start % p ≡ 0 → w .step % p ≡ 0 → addressOf w cols i % p ≡ 0)
+        by-size (λ p. w .step % p ≡ 0 → addressAt w r c % p ≡ w .start % p)
         (at 0 (omega arith)) (at 1 (omega arith)) (at 2 (omega arith)) (at 3 (omega arith)) (at 4 (omega arith))
 
--- the same of an array of pixels in the chosen order
+-- so that the pixels of an array in the chosen order lie at multiples, where its start does
 chosen-multiple : (op : Operation) (s : Settings) (c : Clipped) (w : Walk) (cols i : ℕ) → badPixelSize (s .psize) ≡ false
     → misaligned (s .psize) (chosenWalk op s c w .start) ≡ false → w .pitch % 16 ≡ 0 → w .step ≡ s .psize
     → addressOf (chosenWalk op s c w) cols i % s .psize ≡ 0
+unfolding addressOf
 chosen-multiple op s c w cols i e h hp hw =
-    walk-multiple (s .psize) e (chosenWalk op s c w) cols i h
+    walk-residue (s .psize) e (chosenWalk op s c w) (i / cols) (i % cols)
     (rw (chosenWalk-pitch op s c w) (walked-multiple (fromBottom op s) 4 (w .pitch) (omega arith) hp))
     (rw (chosenWalk-step op s c w, hw) (walked-size (fromRight op s) (s .psize) e))
+    ∙ eqb-true (chosenWalk op s c w .start % s .psize) 0 (not-false _ h)
 
 -- ---- the pixels of a drawing that is not refused
 module _ (op : Operation) (s : Settings) (k w : ℕ) (p : Passes op s k w) (i : ℕ) (h : i < pixels (drawingFor op s)) where

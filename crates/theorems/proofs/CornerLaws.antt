@@ -1,24 +1,17 @@
--- The four starting corners: the order, the first pixel, the end, and what ignores the bits. No contract cites this file. Assumes
--- nothing.
+-- The four starting corners: the order, the first pixel, the end. No contract cites this file. Assumes nothing.
 use mathlib.Core.Path.{_≡_, refl, sym, ap, ap₂, subst, _∙_}
-use mathlib.Core.Bool.{Bool, true, false, cond, not, _&&_, false≢true}
-use mathlib.Core.List.{List}
-use mathlib.Core.Logic.{_≢_}
-use Prim.Native.Nat.{ℕ, suc, _+_, _-_, _*_, _%_, _^_, _≤_, _<_}
+use mathlib.Core.Bool.{Bool, true, false, cond, not, _&&_}
+use Prim.Native.Nat.{ℕ, suc, _+_, _-_, _*_, _%_, _^_, _<_}
 use native.Mathlib.Nat.{zero-mul, mul-comm, zero-div, zero-mod, mod-self}
 use native.Mathlib.Omega.{arith}
-use borrow.Author.Tests.{eqb-true, eq-eqb, ne-eqb, ltb-true, lt-ltb}
+use borrow.Author.Tests.{eqb-true, eq-eqb, ne-eqb}
 use lib.Dec.{eqb}
-use lib.ListN.{length}
-use Rattle.memory.specs.Bits.{noMemory}
 use Rattle.memory.proofs.Tests.{or-false-left, or-false-right}
-use Rattle.control.specs.Control.{windowing, rightToLeft, bottomToTop, processing, badControl, lastOperation}
+use Rattle.control.specs.Control.{windowing, rightToLeft, bottomToTop}
 use Rattle.pixel.specs.Pixel.{badPixelSize}
 use Rattle.walk.specs.declared.Walk.{Walk}
 use Rattle.walk.specs.Walk.{addressAt, addressOf}
-use Rattle.walk.proofs.WalkLaws.{cols-some, row-lt, addressAt-down, addressAt-residue, addressOf-at, addressOf-across, addressOf-down}
-use Rattle.walk.proofs.Arithmetic.{multiple-of-16}
-use Rattle.pixel.proofs.SizeLaws.{by-size}
+use Rattle.walk.proofs.WalkLaws.{cols-some, row-lt, addressAt-down, addressOf-at, addressOf-across, addressOf-down}
 use Rattle.corner.specs.Corner.{walked, cornerOf, fromCorner}
 use Rattle.address.specs.Address.{misaligned}
 use Rattle.windows.specs.declared.Rectangle.{Rectangle}
@@ -29,21 +22,19 @@ use Rattle.settings.specs.declared.Settings.{Settings}
 use Rattle.plot.specs.Drawing.{pixels}
 use Rattle.operation.specs.declared.Operation.{Operation}
 use Rattle.operation.specs.Operation.{toXY, fromXY, walksToCorner, sourceOf, copies, copiesPixels}
-use Rattle.arrays.specs.Array.{rectangleOf, clippedArray, vAfter, destStart, srcStart, fromRight, fromBottom}
+use Rattle.arrays.specs.Array.{rectangleOf, clippedArray, destStart, srcStart, fromRight, fromBottom}
 use Rattle.arrays.specs.Array.{stepOf, chosenWalk, destWalk, srcWalk, drawingOf, drawingFor}
 use Rattle.arrays.proofs.ArrayLaws.{chosenWalk-pitch, chosenWalk-step}
-use Rattle.refusal.specs.Refusal.{lowest}
-use Rattle.array_refusal.specs.Refusal.{badPitch, refusalOf, refusal}
-use Rattle.slices.proofs.FootLaws.{and-false, multiple-of-badPitch}
+use Rattle.array_refusal.specs.Refusal.{badPitch, refusal}
+use Rattle.slices.proofs.FootLaws.{and-false, multiple-of-badPitch, walk-residue}
 use Rattle.drawing.proofs.OutcomeLaws.{outcome-accepted}
 use Rattle.drawing.specs.declared.Outcome.{Outcome}
-use Rattle.drawing.specs.Draw.{found, doneSome, outcomeAt, visitedBy, outcome, drawn}
-use Rattle.lone.specs.Lone.{linearPixel, xySource, xyDestination}
-use Rattle.operation.specs.declared.Operation.the-variants.{FillL, FillXY, PixbltLL, PixbltLXY, PixbltXYL, PixbltXYXY, PixbltBL, PixbltBXY}
+use Rattle.drawing.specs.Draw.{found, doneSome, outcomeAt, visitedBy, outcome}
+use Rattle.operation.specs.declared.Operation.the-variants.{PixbltLL}
 use Rattle.plot.specs.declared.Source.{Source}
 use Rattle.plot.specs.declared.Source.the-variants.{Pixels}
-use Rattle.theorems.specs.Corners.{Goes, ChosenOrder, StartGiven, StartWalked, StartsAlike, EndRegisters, TwelveExactly}
-use Rattle.theorems.specs.Corners.{SameButCorner, withControl, handing}
+use Rattle.theorems.proofs.PlaceLaws.{source-pixels}
+use Rattle.theorems.specs.Corners.{Goes, ChosenOrder, StartGiven, StartWalked, StartsAlike, EndRegisters}
 
 -- ---- one walk in the chosen order
 goes : (falls : Bool) (distance a b : ℕ) → a < 2 ^ 32 → b ≡ (a + walked falls distance) % 2 ^ 32 → Goes falls distance a b
@@ -104,57 +95,6 @@ found-none op s h = go (eqb (windowing (s .control)) 1) refl (toXY op) refl
         in
         absurd (omega (arith, h, ap (λ (n : ℕ). n * clippedArray op s .rows) none, zero-mul (clippedArray op s .rows)))
 
--- ---- what ignores the bits
-module _ (op : Operation) (s : Settings) (c : ℕ) (ignores : copiesPixels (sourceOf op) ≡ false) (same : SameButCorner (s .control) c) where
-  abbrev other : Settings
-  other = withControl s c
-
-  same-array : clippedArray op other ≡ clippedArray op s
-  unfolding clippedArray
-  same-array = rw (same .w)
-
-  same-drawing : drawingFor op other ≡ drawingFor op s
-  unfolding drawingOf chosenWalk destStart srcStart
-  same-drawing = rw (same-array, ignores, same .t, same .pp)
-
-  same-v : (v : Bool) → vAfter op other v ≡ vAfter op s v
-  unfolding vAfter
-  same-v v = rw (same .w)
-
-  same-refusal : (k w : ℕ) → refusal op other k w ≡ refusal op s k w
-  unfolding refusal refusalOf lowest
-  same-refusal k w = rw (same-drawing, same-array, same .w, same .pp)
-
-  -- what is handed back, refused or not
-  same-handed : (t : Bool) (a b a′ b′ : Outcome) → a′ ≡ handing other a → b′ ≡ handing other b
-      → cond t a′ b′ ≡ handing other (cond t a b)
-  same-handed true a b a′ b′ h k = h
-  same-handed false a b a′ b′ h k = k
-
-  pub outcome-ignores : (k : ℕ) (v : Bool) (b w : ℕ) → outcome op other k v b w ≡ handing other (outcome op s k v b w)
-  unfolding outcome outcomeAt
-  outcome-ignores k v b w =
-      rw (same-refusal k w)
-      (same-handed (eqb (refusal op s k w) 0) _ _ _ _ (rw (same-drawing, same-array, same-v v, same .w)) refl)
-
-  pub drawn-ignores : (k b : ℕ) (m : List ℕ) → drawn op other k b m ≡ drawn op s k b m
-  unfolding drawn
-  drawn-ignores k b m = rw (same-refusal k (length m), same-drawing)
-
--- a lone pixel
-module _ (s : Settings) (c : ℕ) (same : SameButCorner (s .control) c) (words a : ℕ) (v : Bool) where
-  pub linear-ignores : linearPixel words (withControl s c) a v ≡ linearPixel words s a v
-  unfolding linearPixel lowest
-  linear-ignores = rw (same .pp)
-
-  pub source-ignores : xySource words (withControl s c) a v ≡ xySource words s a v
-  unfolding xySource lowest
-  source-ignores = rw (same .pp)
-
-  pub destination-ignores : xyDestination words (withControl s c) a v ≡ xyDestination words s a v
-  unfolding xyDestination lowest
-  destination-ignores = rw (same .pp, same .w)
-
 -- ---- the first pixel, and 16
 address-first : (w : Walk) (cols : ℕ) → addressOf w cols 0 ≡ w .start % 2 ^ 32
 unfolding addressOf addressAt
@@ -170,14 +110,7 @@ start-given s = (
 
 -- what walks to its corner copies pixels
 walks-pixels : (op : Operation) → walksToCorner op ≡ true → sourceOf op ≡ Pixels
-walks-pixels FillL e = absurd (false≢true e)
-walks-pixels FillXY e = absurd (false≢true e)
-walks-pixels PixbltLL e = absurd (false≢true e)
-walks-pixels PixbltLXY e = refl
-walks-pixels PixbltXYL e = refl
-walks-pixels PixbltXYXY e = refl
-walks-pixels PixbltBL e = absurd (false≢true e)
-walks-pixels PixbltBXY e = absurd (false≢true e)
+walks-pixels = source-pixels walksToCorner refl refl refl refl
 
 module _ (op : Operation) (s : Settings) (e : walksToCorner op ≡ true) (w : Walk) where
   abbrev c : Clipped
@@ -198,21 +131,8 @@ module _ (op : Operation) (s : Settings) (e : walksToCorner op ≡ true) (w : Wa
       → misaligned (s .psize) (chosenWalk op s c w .start) ≡ misaligned (s .psize) (w .start)
   corner-aligned size hp hs =
       ap (λ (r : ℕ). not (eqb r 0))
-      (ap (λ (a : ℕ). a % s .psize) corner-start ∙ residue (s .psize) size (ap (λ (x : ℕ). x % s .psize) hs ∙ mod-self (s .psize)))
-    where
-      row : ℕ
-      row = cornerOf (bottomToTop (s .control)) (c .rows)
-
-      column : ℕ
-      column = cornerOf (rightToLeft (s .control)) (c .cols)
-
-      at : (k : ℕ) → k ≤ 4 → w .step % 2 ^ k ≡ 0 → addressAt w row column % 2 ^ k ≡ w .start % 2 ^ k
-      at k h z = addressAt-residue k w row column h (multiple-of-16 k (w .pitch) h hp) z
-
-      residue : (p : ℕ) → badPixelSize p ≡ false → w .step % p ≡ 0 → addressAt w row column % p ≡ w .start % p
-      residue =
-          by-size (λ p. w .step % p ≡ 0 → addressAt w row column % p ≡ w .start % p)
-          (at 0 (omega arith)) (at 1 (omega arith)) (at 2 (omega arith)) (at 3 (omega arith)) (at 4 (omega arith))
+      (ap (λ (a : ℕ). a % s .psize) corner-start
+      ∙ walk-residue (s .psize) size w _ _ hp (ap (λ (x : ℕ). x % s .psize) hs ∙ mod-self (s .psize)))
 
 -- ---- the order and the end of a drawing
 pub chosen-order : ChosenOrder
@@ -275,33 +195,3 @@ end-registers op s k v b w e some end =
       (λ h. subst (Goes (fromBottom op s) (s .sptch) _) (sym (end-saddr op s k v b w e some end h))
           (goes-end op s c (srcWalk op s c) (c .cols) cols (c .rows) rows)),
     )
-
--- ---- 12
-pub twelve-exactly : TwelveExactly
-unfolding lowest
-twelve-exactly words s t = (there, back)
-  where
-    cases : (a b c : Bool) (r : ℕ) → r ≢ 12 → cond a 10 (cond b 11 (cond c 12 r)) ≡ 12 → (a ≡ false) × (b ≡ false) × (c ≡ true)
-    cases true b c r ne e = absurd (omega arith)
-    cases false true c r ne e = absurd (omega arith)
-    cases false false true r ne e = (refl, refl, refl)
-    cases false false false r ne e = absurd (ne e)
-
-    other : (b : Bool) (n r : ℕ) → n ≢ 12 → r ≢ 12 → cond b n r ≢ 12
-    other true n r h k = h
-    other false n r h k = k
-
-    rest : _≢_ {A = ℕ} (cond (t .pitch) 13 (cond (t .window) 14 (cond (t .place) 15 (cond (t .start) 16 (cond (t .end) 17 0))))) 12
-    rest =
-        other (t .pitch) 13 _ (λ z. omega arith)
-        (other (t .window) 14 _ (λ z. omega arith)
-        (other (t .place) 15 _ (λ z. omega arith)
-        (other (t .start) 16 _ (λ z. omega arith) (other (t .end) 17 0 (λ z. omega arith) (λ z. omega arith)))))
-
-    there : lowest words s t ≡ 12 → (noMemory words ≡ false) × (badPixelSize (s .psize) ≡ false) × (lastOperation < processing (s .control))
-    there e =
-        let p = cases (noMemory words) (badPixelSize (s .psize)) (badControl (s .control)) _ rest e in
-        (p .0, p .1, ltb-true lastOperation (processing (s .control)) (p .2))
-
-    back : (noMemory words ≡ false) × (badPixelSize (s .psize) ≡ false) × (lastOperation < processing (s .control)) → lowest words s t ≡ 12
-    back (a, b, h) = rw (a, b, lt-ltb lastOperation (processing (s .control)) h)

@@ -9,6 +9,7 @@ pub mod Arrays
 pub mod SeenLaws
 pub mod Windows
 pub mod CornerLaws
+pub mod IgnoreLaws
 pub mod Corners
 pub mod Copies
 pub mod Refused

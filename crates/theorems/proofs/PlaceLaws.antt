@@ -79,16 +79,21 @@ module _ (pbh pbv : Bool) (cols rows : ℕ) where
 
 -- ---- tests
 
+-- what holds of no FILL and of no B source holds of sources of pixels alone
+pub source-pixels : (t : Operation → Bool) → t FillL ≡ false → t FillXY ≡ false → t PixbltBL ≡ false → t PixbltBXY ≡ false
+    → (op : Operation) → t op ≡ true → sourceOf op ≡ Pixels
+source-pixels t a b c d FillL e = absurd (false≢true (sym a ∙ e))
+source-pixels t a b c d FillXY e = absurd (false≢true (sym b ∙ e))
+source-pixels t a b c d PixbltLL e = refl
+source-pixels t a b c d PixbltLXY e = refl
+source-pixels t a b c d PixbltXYL e = refl
+source-pixels t a b c d PixbltXYXY e = refl
+source-pixels t a b c d PixbltBL e = absurd (false≢true (sym c ∙ e))
+source-pixels t a b c d PixbltBXY e = absurd (false≢true (sym d ∙ e))
+
 -- an XY source is one of pixels
 xy-pixels : (op : Operation) → fromXY op ≡ true → sourceOf op ≡ Pixels
-xy-pixels FillL e = absurd (false≢true e)
-xy-pixels FillXY e = absurd (false≢true e)
-xy-pixels PixbltLL e = absurd (false≢true e)
-xy-pixels PixbltLXY e = absurd (false≢true e)
-xy-pixels PixbltXYL e = refl
-xy-pixels PixbltXYXY e = refl
-xy-pixels PixbltBL e = absurd (false≢true e)
-xy-pixels PixbltBXY e = absurd (false≢true e)
+xy-pixels = source-pixels fromXY refl refl refl refl
 
 -- a linear destination is not clipped
 linear-left : (op : Operation) (s : Settings) → toXY op ≡ false → clippedArray op s .left ≡ 0

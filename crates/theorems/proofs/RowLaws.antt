@@ -1,19 +1,18 @@
 -- The rows of an accepted drawing: where they start in their words, and that each one rises without a wrap. Assumes nothing.
 use mathlib.Core.Path.{_≡_, refl, sym, ap, _∙_}
-use mathlib.Core.Bool.{Bool, false, _&&_, _||_}
-use Prim.Native.Nat.{ℕ, zero, suc, _+_, _-_, _*_, _/_, _%_, _^_, _≤_, _<_}
+use mathlib.Core.Bool.{Bool, false, _&&_}
+use Prim.Native.Nat.{ℕ, zero, suc, _+_, _-_, _*_, _/_, _%_, _≤_, _<_}
 use native.Mathlib.Nat.{zero-mul, one-mul, mul-comm, add-mul, mul-add, mul-sub, mul-assoc, mul-left-comm, mul-le-mul, div-add-mod}
 use native.Mathlib.Numerals.{add-one}
 use native.Mathlib.Omega.{arith}
 use borrow.Author.Tests.{eqb-true, not-false}
-use lib.Arith.{digits-lt, digits-div, digits-mod}
+use lib.Arith.{digits-lt}
 use Rattle.memory.proofs.Tests.{or-false-left, or-false-right, sized}
 use Rattle.pixel.specs.Pixel.{badPixelSize}
 use Rattle.pixel.proofs.SizeLaws.{by-size, size-le}
-use Rattle.fill_tables.specs.Time.{wordsOf, alignmentOf}
-use Rattle.fill_tables.proofs.RowLaws.{row-within, row-holds, wordsOf-same, alignmentOf-same}
-use Rattle.walk.specs.declared.Walk.{Walk}
-use Rattle.walk.specs.Walk.{addressAt, addressOf}
+use Rattle.fill_tables.specs.Time.{wordsOf}
+use Rattle.fill_tables.proofs.RowLaws.{row-within, row-holds, wordsOf-same}
+use Rattle.walk.specs.Walk.{addressAt}
 use Rattle.walk.proofs.Arithmetic.{mod-pow-mod}
 use Rattle.walk.proofs.WalkLaws.{addressAt-across, addressOf-at}
 use Rattle.extent.proofs.ExtentLaws.{lt-of-leavesMemory}

@@ -1,8 +1,7 @@
 -- The proofs of specs/Timing.antt. Assumes nothing.
-use mathlib.Core.Path.{_≡_, refl, sym, ap, _∙_}
+use mathlib.Core.Path.{ap, _∙_}
 use mathlib.Core.Bool.{false}
-use mathlib.Core.List.{List}
-use Prim.Native.Nat.{ℕ, _+_, _*_, _≤_, _<_}
+use Prim.Native.Nat.{ℕ, _*_, _<_}
 use native.Mathlib.Omega.{arith}
 use lib.ListN.{length}
 use Rattle.fill_tables.specs.declared.Fill.{Fill}
@@ -11,9 +10,7 @@ use Rattle.fill_tables.specs.Time.{timeOf}
 use Rattle.fill_tables.proofs.TimeLaws.{setupTime-some, adjustment-le}
 use Rattle.fill_tables.proofs.RowLaws.{alignmentOf-same}
 use Rattle.image.proofs.ImageLaws.{length-image}
-use Rattle.settings.specs.declared.Settings.{Settings}
 use Rattle.settings.specs.Settings.{settingsOf}
-use Rattle.operation.specs.declared.Operation.{Operation}
 use Rattle.operation.specs.Operation.{operationOf}
 use Rattle.arrays.specs.Array.{drawingOf, drawingFor}
 use Rattle.array_refusal.proofs.RefusalLaws.{passes}

@@ -95,9 +95,3 @@ pub addressAt-residue : (k : ℕ) (w : Walk) (r c : ℕ) → k ≤ 4 → w .pitc
 unfolding addressAt
 addressAt-residue k w r c small hp hw =
     mod-pow-mod k 32 _ (omega arith) ∙ residue-sum (2 ^ k) (w .start) r (w .pitch) c (w .step) hp hw
-
--- and is a multiple where the start is
-pub addressOf-multiple : (k : ℕ) (w : Walk) (cols i : ℕ) → k ≤ 4
-    → w .start % 2 ^ k ≡ 0 → w .pitch % 2 ^ k ≡ 0 → w .step % 2 ^ k ≡ 0 → addressOf w cols i % 2 ^ k ≡ 0
-unfolding addressOf
-addressOf-multiple k w cols i small hs hp hw = addressAt-residue k w (i / cols) (i % cols) small hp hw ∙ hs
