@@ -1,7 +1,8 @@
 -- The proofs of specs/Arrays.antt. Assumes nothing.
 use Rattle.address.proofs.CoordinateLaws as address
 use Rattle.extent.proofs.ExtentLaws as extent
-use Rattle.theorems.specs.Arrays.{CoordinateIsSigned, RegisterIsCoordinates, WalkInside, KeptIsVisited, PixelPlaces, OfArrays}
+use Rattle.theorems.specs.Arrays.{CoordinateIsSigned, RegisterIsCoordinates, WalkInside, KeptIsVisited, PixelPlaces}
+use Rattle.theorems.specs.Arrays.{GivenPlaces, OfArrays}
 use Rattle.theorems.proofs.PlaceLaws as place
 
 pub coordinate-is-signed : CoordinateIsSigned
@@ -20,6 +21,9 @@ kept-is-visited op s = (place.visited-kept op s, place.kept-visited op s)
 pub pixel-places : PixelPlaces
 pixel-places op s k words ne e i h = (place.dest-place op s k words ne e i h, place.src-place op s k words ne e i h)
 
+pub given-places : GivenPlaces
+given-places s i = (place.dest-given s i, place.src-given s i)
+
 pub of-arrays : OfArrays
 of-arrays =
     record {
@@ -28,4 +32,5 @@ of-arrays =
       walk-inside = walk-inside;
       kept-is-visited = kept-is-visited;
       pixel-places = pixel-places;
+      given-places = given-places;
     }

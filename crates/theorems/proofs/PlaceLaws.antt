@@ -3,11 +3,12 @@ use mathlib.Core.Path.{_≡_, refl, sym, ap, ap₂, subst, _∙_}
 use mathlib.Core.Bool.{Bool, true, false, cond, _&&_, _||_, false≢true}
 use mathlib.Core.Logic.{_≢_}
 use Prim.Native.Nat.{ℕ, _+_, _-_, _*_, _/_, _%_, _^_, _≤_, _<_}
-use native.Mathlib.Nat.{add-assoc, mul-comm}
+use native.Mathlib.Nat.{add-assoc, zero-mul, mul-comm}
 use native.Mathlib.Omega.{arith}
 use borrow.Author.Tests.{ltb-false}
 use lib.Arith.{digits-lt, digits-div, digits-mod}
 use Rattle.memory.proofs.Tests.{or-false-left, or-false-right}
+use Rattle.control.specs.Control.{rightToLeft, bottomToTop}
 use Rattle.address.specs.Coordinate.{xOf, yOf, negative}
 use Rattle.address.specs.Address.{xyAddress}
 use Rattle.windows.specs.Kept.{InRectangle, kept}
@@ -16,7 +17,7 @@ use Rattle.windows.specs.declared.Clipped.{Clipped}
 use Rattle.walk.specs.declared.Walk.{Walk}
 use Rattle.walk.specs.Walk.{addressAt, addressOf, startAt}
 use Rattle.walk.proofs.WalkLaws.{addressAt-moved, column-lt, row-lt}
-use Rattle.corner.specs.Corner.{chosenIndex}
+use Rattle.corner.specs.Corner.{turned, chosenIndex}
 use Rattle.corner.proofs.CornerLaws.{chosenIndex-lt, chosenIndex-twice}
 use Rattle.settings.specs.declared.Settings.{Settings}
 use Rattle.plot.specs.declared.Source.{Source}
@@ -199,6 +200,23 @@ module _ (op : Operation) (s : Settings) (place words : ℕ) (ne : op ≢ Pixblt
           ≡ xyAddress (s .offset) (s .sptch) (stepOf x (s .psize)) (xOf (s .saddr) + columnOf op s i) (yOf (s .saddr) + rowOf op s i))
           (sym (xy-pixels op q)) (place-xy (s .saddr) (s .sptch) (xy-source q))
       go false q = addressAt-moved (linearSource op s) (c .above) (c .left) row column
+
+-- ---- an L,L
+module _ (s : Settings) (i : ℕ) where
+  abbrev cols : ℕ
+  cols = drawingFor PixbltLL s .cols
+
+  -- the walk of an array from its given start, in the chosen order
+  abbrev given : Walk → Walk
+  given w = turned (rightToLeft (s .control)) (bottomToTop (s .control)) w
+
+  pub dest-given : destOf (drawingFor PixbltLL s) i ≡ addressAt (given (destination s)) (i / cols) (i % cols)
+  unfolding drawingOf chosenWalk destStart addressOf
+  dest-given = refl
+
+  pub src-given : srcOf (drawingFor PixbltLL s) i ≡ addressAt (given (linearSource PixbltLL s)) (i / cols) (i % cols)
+  unfolding drawingOf chosenWalk srcStart clippedArray addressOf addressAt
+  src-given = omega (arith, zero-mul (s .sptch), zero-mul (s .psize))
 
 -- ---- the pixels visited are those kept
 module _ (op : Operation) (s : Settings) where

@@ -5,12 +5,13 @@ use mathlib.Core.Bool.{Bool, false, cond}
 use mathlib.Core.Logic.{_≢_, _↔_}
 use Prim.Native.Nat.{ℕ, _+_, _*_, _/_, _%_, _^_, _≤_, _<_}
 use Rattle.memory.specs.Bits.{noMemory}
+use Rattle.control.specs.Control.{rightToLeft, bottomToTop}
 use Rattle.address.specs.Coordinate.{coordinate, xOf, yOf, registerOf}
 use Rattle.address.specs.Address.{xyAddress}
 use Rattle.windows.specs.Kept.{InRectangle, kept}
 use Rattle.walk.specs.declared.Walk.{Walk}
 use Rattle.walk.specs.Walk.{addressAt, addressOf}
-use Rattle.corner.specs.Corner.{chosenIndex}
+use Rattle.corner.specs.Corner.{turned, chosenIndex}
 use Rattle.extent.specs.Extent.{leavesMemory}
 use Rattle.settings.specs.declared.Settings.{Settings}
 use Rattle.plot.specs.Drawing.{pixels}
@@ -91,7 +92,7 @@ KeptIsVisited =
 -- Each pixel of a drawing that is not refused, clipped or not, from whichever corner, lies at the
 -- address of its own X and Y if the destination is XY, and its source lies as many columns and rows
 -- from the source's start as it does from the destination's. (A FILL takes no notice of the second.
--- The starts of an L,L are its corner's pixels: Corners.antt, StartGiven and ChosenOrder.)
+-- The starts of an L,L are not upper left: GivenPlaces.)
 abbrev pub PixelPlaces : Type 0
 PixelPlaces =
     (op : Operation) (s : Settings) (place words : ℕ)
@@ -102,6 +103,18 @@ PixelPlaces =
     × (srcOf (drawingFor op s) i
     ≡ placeAt (fromXY op) (s .offset) (linearSource op s) (columnOf op s i) (rowOf op s i))
 
+-- Each pixel of an L,L and its source lie as many columns and rows from the given starts, which are
+-- those of the chosen corner, walked in the chosen order.
+abbrev pub GivenPlaces : Type 0
+GivenPlaces =
+    (s : Settings) (i : ℕ)
+    → let d = drawingFor PixbltLL s in
+    let pbh = rightToLeft (s .control) in
+    let pbv = bottomToTop (s .control) in
+    (destOf d i ≡ addressAt (turned pbh pbv (destination s)) (i / d .cols) (i % d .cols))
+    × (srcOf d i
+    ≡ addressAt (turned pbh pbv (linearSource PixbltLL s)) (i / d .cols) (i % d .cols))
+
 -- every statement of this file
 pub record OfArrays : Type 0 where
   pub coordinate-is-signed : CoordinateIsSigned
@@ -109,3 +122,4 @@ pub record OfArrays : Type 0 where
   pub walk-inside : WalkInside
   pub kept-is-visited : KeptIsVisited
   pub pixel-places : PixelPlaces
+  pub given-places : GivenPlaces
