@@ -4,7 +4,7 @@ use mathlib.Core.Path.{_≡_, sym, ap, ap₂, subst, _∙_}
 use mathlib.Core.Bool.{Bool, true, false, _&&_}
 use mathlib.Core.List.{List}
 use mathlib.Core.Logic.{_⊎_, ⊎-elim}
-use Prim.Native.Nat.{ℕ, _-_, _*_, _^_, _≤_, min}
+use Prim.Native.Nat.{ℕ, _-_, _≤_, min}
 use native.Mathlib.Omega.{arith}
 use Rattle.memory.specs.Bits.{Memory}
 use Rattle.memory.proofs.Tests.{sized}
@@ -28,7 +28,7 @@ use Rattle.overlap.specs.Copy.{PlainCopy, OldSource, Unspoilt, RisesBelo
 use Rattle.overlap.specs.Scroll.{Scroll, ToLower, ToHigher}
 use Rattle.overlap.proofs.CopyLaws.{copied}
 use Rattle.overlap.proofs.OrderLaws.{unspoilt-of-rises, unspoilt-of-falls}
-use Rattle.overlap.proofs.ScrollLaws.{rises-of, falls-of}
+use Rattle.overlap.proofs.ScrollLaws.{Within, Alike, rises-of, falls-of}
 
 module _ (w : ℕ) (m : List ℕ) (g : Memory w m) (op : Operation) (s : Settings) (e : refusal op s 0 w ≡ 0)
     (plain : PlainCopy (drawingFor op s)) where
@@ -57,20 +57,14 @@ module _ (w : ℕ) (m : List ℕ) (g : Memory w m) (op : Operation) (s : Setting
 
     -- ---- by settings
     module _ (scroll : Scroll op s) where
-      -- both walks have one pitch and one step, as they are walked
-      record Alike (falls : Bool) : Type 0 where
-        to-pitch : drawingFor op s .dest .pitch ≡ walked falls (s .dptch)
-        from-pitch : drawingFor op s .src .pitch ≡ walked falls (s .dptch)
-        to-step : drawingFor op s .dest .step ≡ walked falls (s .psize)
-        from-step : drawingFor op s .src .step ≡ walked falls (s .psize)
-
       chosen : (bit falls : Bool) → bit ≡ falls → (copiesPixels (sourceOf op) && bit) ≡ falls
       chosen bit falls h = rw (ap copiesPixels pixelSource) h
 
       abbrev step : Bool → Source → ℕ
       step t k = walked t (stepOf k (s .psize))
 
-      alike : (falls : Bool) → rightToLeft (s .control) ≡ falls → bottomToTop (s .control) ≡ falls → Alike falls
+      alike : (falls : Bool) → rightToLeft (s .control) ≡ falls → bottomToTop (s .control) ≡ falls
+          → Alike (drawingFor op s) (s .dptch) falls
       unfolding drawingOf
       alike falls h v =
           let c = clippedArray op s in
@@ -83,24 +77,23 @@ module _ (w : ℕ) (m : List ℕ) (g : Memory w m) (op : Operation) (s : Setting
             from-step = chosenWalk-step op s c (srcWalk op s c) ∙ ap₂ step right pixelSource;
           }
 
-      small : 16 * w ≤ 2 ^ 24
-      small = omega (arith, sized w (accepted .memory) .most)
+      within : Within (drawingFor op s) (s .dptch)
+      unfolding drawingOf
+      within =
+          let most = sized w (accepted .memory) .most in
+          record {
+            size = accepted .size;
+            to = λ i l. omega (arith, most, dest-inside op s 0 w accepted i l);
+            from = λ i l. omega (arith, most, src-inside op s 0 w accepted i l pixelSource);
+            row = scroll .rows;
+            short = scroll .half;
+          }
 
       rises : ToLower op s → RisesBelow (drawingFor op s)
-      unfolding drawingOf
-      rises h =
-          let a = alike false (h .pbh) (h .pbv) in
-          rises-of (drawingFor op s) (s .dptch) (16 * w) small (accepted .size) (dest-inside op s 0 w accepted)
-          (λ i l. src-inside op s 0 w accepted i l pixelSource) (scroll .rows) (scroll .half) (a .to-pitch) (a .from-pitch) (a .to-step)
-          (a .from-step) (h .first)
+      rises h = rises-of (drawingFor op s) (s .dptch) within (alike false (h .pbh) (h .pbv)) (h .first)
 
       falls : ToHigher op s → FallsAbove (drawingFor op s)
-      unfolding drawingOf
-      falls h =
-          let a = alike true (h .pbh) (h .pbv) in
-          falls-of (drawingFor op s) (s .dptch) (16 * w) small (accepted .size) (dest-inside op s 0 w accepted)
-          (λ i l. src-inside op s 0 w accepted i l pixelSource) (scroll .rows) (scroll .half) (a .to-pitch) (a .from-pitch) (a .to-step)
-          (a .from-step) (h .first)
+      falls h = falls-of (drawingFor op s) (s .dptch) within (alike true (h .pbh) (h .pbv)) (h .first)
 
       pub copy-scroll : ToLower op s ⊎ ToHigher op s → OldSource (drawingFor op s) m (drawn op s 0 b m)
       copy-scroll h = copy-unspoilt (⊎-elim (λ l. unspoilt-of-rises _ (rises l)) (λ u. unspoilt-of-falls _ (falls u)) h)

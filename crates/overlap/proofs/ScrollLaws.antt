@@ -1,10 +1,10 @@
 -- A scroll: two walks of one pitch and step inside the memory, with rows that are no longer than the pitch. They rise, or they fall, and
 -- the one that starts below the other stays below it. No contract cites this file. Assumes nothing.
 use mathlib.Core.Path.{_≡_, refl, sym, ap, ap₂, _∙_}
-use mathlib.Core.Bool.{true, false}
+use mathlib.Core.Bool.{Bool, true, false}
 use mathlib.Core.Logic.{⊎-elim}
 use Prim.Native.Nat.{ℕ, suc, _+_, _-_, _*_, _/_, _%_, _^_, _≤_, _<_}
-use native.Mathlib.Nat.{eq-or-lt-of-le, lt-of-lt-of-le, mul-le-mul-right}
+use native.Mathlib.Nat.{eq-or-lt-of-le, mul-le-mul-right}
 use native.Mathlib.Nat.{zero-div, zero-mod, mod-lt, div-add-mod'}
 use native.Mathlib.Omega.{arith}
 use lib.Arith.{digits-div, digits-mod}
@@ -85,31 +85,39 @@ module _ (w : Walk) (pitch step cols i : ℕ) (row : cols * step ≤ pitch) (sho
       go s o o′ f f′ x y hx hy ho ho′ b b′ h = omega arith
 
 -- ---- drawings
-module _ (d : Drawing) (pitch limit : ℕ) (small : limit ≤ 2 ^ 24) (size : badPixelSize (d .psize) ≡ false)
-    (to : (i : ℕ) → i < pixels d → destOf d i < limit) (from : (i : ℕ) → i < pixels d → srcOf d i < limit)
-    (row : d .cols * d .psize ≤ pitch) (short : pitch ≤ 2 ^ 31) where
-  low : (i : ℕ) → i < pixels d → (destOf d i < 2 ^ 24) × (srcOf d i < 2 ^ 24)
-  low i l = (lt-of-lt-of-le (to i l) small, lt-of-lt-of-le (from i l) small)
+-- the pixels lie in the memory, in rows that are no longer than the pitch
+pub record Within (d : Drawing) (pitch : ℕ) : Type 0 where
+  pub size : badPixelSize (d .psize) ≡ false
+  pub to : (i : ℕ) → i < pixels d → destOf d i < 2 ^ 24
+  pub from : (i : ℕ) → i < pixels d → srcOf d i < 2 ^ 24
+  pub row : d .cols * d .psize ≤ pitch
+  pub short : pitch ≤ 2 ^ 31
 
+-- both walks have one pitch, and one step of a pixel, as they are walked
+pub record Alike (d : Drawing) (pitch : ℕ) (falls : Bool) : Type 0 where
+  pub to-pitch : d .dest .pitch ≡ walked falls pitch
+  pub from-pitch : d .src .pitch ≡ walked falls pitch
+  pub to-step : d .dest .step ≡ walked falls (d .psize)
+  pub from-step : d .src .step ≡ walked falls (d .psize)
+
+module _ (d : Drawing) (pitch : ℕ) (w : Within d pitch) where
   some : {i : ℕ} → i < pixels d → 0 < d .cols
   some {i} l = cols-some (d .cols) (d .rows) i l
 
-  pub rises-of : d .dest .pitch ≡ pitch → d .src .pitch ≡ pitch → d .dest .step ≡ d .psize → d .src .step ≡ d .psize
-      → destOf d 0 ≤ srcOf d 0 → RisesBelow d
-  rises-of hp hp′ hs hs′ h =
+  pub rises-of : Alike d pitch false → destOf d 0 ≤ srcOf d 0 → RisesBelow d
+  rises-of a h =
       record {
-        rises = λ i l. addressOf-rises (d .dest) pitch (d .psize) (d .cols) i row short (some l) (size-pos (d .psize) size)
-            (low i (omega arith) .0) (low (suc i) l .0) hp hs;
-        below = λ i l. addressOf-mono (d .dest) (d .src) (hp ∙ sym hp′) (hs ∙ sym hs′) (d .cols) i h (low 0 (omega arith) .1) (low i l .0)
-            (low i l .1);
+        rises = λ i l. addressOf-rises (d .dest) pitch (d .psize) (d .cols) i (w .row) (w .short) (some l) (size-pos (d .psize) (w .size))
+            (w .to i (omega arith)) (w .to (suc i) l) (a .to-pitch) (a .to-step);
+        below = λ i l. addressOf-mono (d .dest) (d .src) (a .to-pitch ∙ sym (a .from-pitch)) (a .to-step ∙ sym (a .from-step)) (d .cols) i h
+            (w .from 0 (omega arith)) (w .to i l) (w .from i l);
       }
 
-  pub falls-of : d .dest .pitch ≡ walked true pitch → d .src .pitch ≡ walked true pitch → d .dest .step ≡ walked true (d .psize)
-      → d .src .step ≡ walked true (d .psize) → srcOf d 0 ≤ destOf d 0 → FallsAbove d
-  falls-of hp hp′ hs hs′ h =
+  pub falls-of : Alike d pitch true → srcOf d 0 ≤ destOf d 0 → FallsAbove d
+  falls-of a h =
       record {
-        falls = λ i l. addressOf-falls (d .dest) pitch (d .psize) (d .cols) i row short (some l) (size-pos (d .psize) size)
-            (low i (omega arith) .0) (low (suc i) l .0) hp hs;
-        above = λ i l. addressOf-mono (d .src) (d .dest) (hp′ ∙ sym hp) (hs′ ∙ sym hs) (d .cols) i h (low 0 (omega arith) .0) (low i l .1)
-            (low i l .0);
+        falls = λ i l. addressOf-falls (d .dest) pitch (d .psize) (d .cols) i (w .row) (w .short) (some l) (size-pos (d .psize) (w .size))
+            (w .to i (omega arith)) (w .to (suc i) l) (a .to-pitch) (a .to-step);
+        above = λ i l. addressOf-mono (d .src) (d .dest) (a .from-pitch ∙ sym (a .to-pitch)) (a .from-step ∙ sym (a .to-step)) (d .cols) i h
+            (w .to 0 (omega arith)) (w .from i l) (w .to i l);
       }

@@ -19,8 +19,8 @@ use Rattle.overlap.specs.Example.{twoRows, movedRight, smeared}
 
 -- an accepted copy of pixels with replace, T=0 and PMASK 0, of which something holds, leaves the
 -- old source in all it draws: whole, over any memory
-abbrev Leaves : (Operation → Settings → Type 0) → Type 0
-Leaves If =
+abbrev KeepsSource : (Operation → Settings → Type 0) → Type 0
+KeepsSource If =
     (w : ℕ) (m : List ℕ) → Memory w m
     → (op : Operation) (s : Settings) → refusal op s 0 w ≡ 0 → PlainCopy (drawingFor op s) → If op s
     → (b : ℕ) → pixels (drawingFor op s) ≤ b
@@ -28,18 +28,18 @@ Leaves If =
 
 -- If no pixel's source was drawn before it, and no pixel is drawn twice.
 abbrev pub CopyUnspoilt : Type 0
-CopyUnspoilt = Leaves (λ op s. Unspoilt (drawingFor op s))
+CopyUnspoilt = KeepsSource (λ op s. Unspoilt (drawingFor op s))
 
 -- If the corner's walk rises in address from pixel to pixel where each destination pixel lies below
 -- its source pixel, and falls where it lies above. (A walk that rises or falls so has no rows that
 -- share bits. That pitches are equal is not asked.)
 abbrev pub CopyInOrder : Type 0
-CopyInOrder = Leaves (λ op s. RisesBelow (drawingFor op s) ⊎ FallsAbove (drawingFor op s))
+CopyInOrder = KeepsSource (λ op s. RisesBelow (drawingFor op s) ⊎ FallsAbove (drawingFor op s))
 
 -- By settings: with equal pitches and rows that don't share bits, PBH=PBV=0 where the first pixel
 -- lies below its source, and PBH=PBV=1 where it lies above.
 abbrev pub CopyScroll : Type 0
-CopyScroll = Leaves (λ op s. Scroll op s × (ToLower op s ⊎ ToHigher op s))
+CopyScroll = KeepsSource (λ op s. Scroll op s × (ToLower op s ⊎ ToHigher op s))
 
 -- ---- an example
 

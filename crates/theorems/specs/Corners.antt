@@ -39,7 +39,7 @@ Goes true distance a b = a ≡ (b + distance) % 2 ^ 32
 
 -- "PBH=1 walks each row from its right end": from a pixel to the next one of its row, the addresses
 -- of destination and source rise by a pixel, or fall by one. "PBV=1 walks rows from the last one
--- up": from a pixel to the one below it in the order, by the pitch.
+-- up": from a pixel to the one of its column in the next row walked, by the pitch.
 abbrev pub ChosenOrder : Type 0
 ChosenOrder =
     (op : Operation) (s : Settings) → let d = drawingFor op s in 0 < d .cols → (i : ℕ)
