@@ -18,6 +18,9 @@ pub mod Names
 pub mod Plans
 pub mod WritingLaws
 pub mod Runs
+pub mod Columns
+pub mod ResumeLaws
+pub mod Resume
 pub mod RowLaws
 pub mod Timing
 pub mod Example

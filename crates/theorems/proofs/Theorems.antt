@@ -12,6 +12,8 @@ use Rattle.theorems.proofs.Slices.{of-slices}
 use Rattle.theorems.proofs.Names.{of-names}
 use Rattle.theorems.proofs.Plans.{of-plans}
 use Rattle.theorems.proofs.Runs.{of-runs}
+use Rattle.theorems.proofs.Columns.{of-columns}
+use Rattle.theorems.proofs.Resume.{of-resume}
 use Rattle.theorems.proofs.Timing.{of-timing}
 use Rattle.theorems.proofs.Example.{of-example}
 
@@ -30,6 +32,8 @@ theorems =
       names = of-names;
       plans = of-plans;
       runs = of-runs;
+      columns = of-columns;
+      resume = of-resume;
       timing = of-timing;
       example = of-example;
     }

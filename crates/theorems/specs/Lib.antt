@@ -10,6 +10,8 @@ pub mod Slices
 pub mod Names
 pub mod Plans
 pub mod Runs
+pub mod Columns
+pub mod Resume
 pub mod Timing
 pub mod Example
 pub mod Theorems

@@ -13,6 +13,8 @@ use Rattle.theorems.specs.Slices.{OfSlices}
 use Rattle.theorems.specs.Names.{OfNames}
 use Rattle.theorems.specs.Plans.{OfPlans}
 use Rattle.theorems.specs.Runs.{OfRuns}
+use Rattle.theorems.specs.Columns.{OfColumns}
+use Rattle.theorems.specs.Resume.{OfResume}
 use Rattle.theorems.specs.Timing.{OfTiming}
 use Rattle.theorems.specs.Example.{OfExample}
 
@@ -29,5 +31,7 @@ pub record Theorems : Type 0 where
   pub names : OfNames
   pub plans : OfPlans
   pub runs : OfRuns
+  pub columns : OfColumns
+  pub resume : OfResume
   pub timing : OfTiming
   pub example : OfExample
