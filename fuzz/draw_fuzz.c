@@ -133,7 +133,7 @@ static bool is_short(const struct call *c, size_t results)
 static struct result no_result(void)
 {
     struct result r;
-    r.answer = BH_SHORT;
+    r.answer = BH_BAD_ARGUMENT;
     for (int i = 0; i < OUTS; i++)
         r.out[i] = GUARD_LONG;
     return r;
@@ -298,7 +298,7 @@ int LLVMFuzzerTestOneInput(const uint8_t *data, size_t size)
     struct result r = compare_call(&c, memory);
     uint64_t slices = number_at(b, AT_SLICES, 1) % 8;
     for (uint64_t i = 0; i < slices; i++) {
-        if (r.answer != BH_SHORT) {
+        if (r.answer != BH_BAD_ARGUMENT) {
             c.place = r.out[0];
             c.v = (uint32_t)r.out[2];
         }

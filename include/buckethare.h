@@ -7,6 +7,10 @@
    The pointer may not be null, also where the length is 0, and the arrays of one call may not
    overlap.
 
+   Calls may be made from any threads at once, as long as no array that one of them writes is used
+   by another at the same time. An array that is const here is only read. The library is for Linux
+   on x86-64, and takes nothing but memcpy and memset from the C library.
+
    The answer of a call, but for the two bh_put_ calls, is 0, 1 where a drawing stopped at its
    budget, or the number of the refusal that applies:
       9  an array is too short or of the wrong size, a mode or an operation is none, or a number is
@@ -48,9 +52,12 @@
 extern "C" {
 #endif
 
+/* While the first number is 0, each second number may change the interface. */
+#define BH_VERSION "0.16.0"
+
 #define BH_DONE 0
 #define BH_STOPPED 1
-#define BH_SHORT 9
+#define BH_BAD_ARGUMENT 9
 #define BH_NO_MEMORY 10
 #define BH_BAD_PIXEL_SIZE 11
 #define BH_BAD_CONTROL 12
@@ -71,7 +78,7 @@ extern "C" {
 
 /* Reads the field of `size` bits at bit address `address` into out[0], zero extended, or sign
    extended where is_signed isn't 0. The memory stays. Answers 0, 9 (out is empty), 10, 17 or 18. */
-uint32_t bh_field_read(uint16_t *memory, size_t words, uint32_t address, uint32_t size,
+uint32_t bh_field_read(const uint16_t *memory, size_t words, uint32_t address, uint32_t size,
                        uint32_t is_signed, uint32_t *out, size_t out_length);
 
 /* Writes the low `size` bits of value to the field, and changes no other bit. Answers 0, 10, 17
@@ -82,6 +89,7 @@ uint32_t bh_field_write(uint16_t *memory, size_t words, uint32_t address, uint32
 /* Memory cycles of a move of the field: out[0] of a read, out[1] of a write. Answers 0, 9 (out has
    less than 2 elements) or 18. */
 uint32_t bh_field_cycles(uint32_t address, uint32_t size, uint32_t *out, size_t out_length);
+enum { BH_CYCLES_READ, BH_CYCLES_WRITE };
 
 #define BH_INDIRECT 0
 #define BH_POSTINCREMENT 1
@@ -101,9 +109,29 @@ uint32_t bh_move_states(uint32_t address, uint32_t size, uint32_t mode, uint32_t
    columns in the low and its rows in the high ones. Further elements are not read. */
 #define BH_SETTINGS 13
 
+/* The index of each of them, for a start value such as { [BH_DPTCH] = 2048, [BH_PSIZE] = 4 }.
+   BH_SEED is no setting; plans have it (below). */
+enum {
+    BH_SADDR,
+    BH_SPTCH,
+    BH_DADDR,
+    BH_DPTCH,
+    BH_OFFSET,
+    BH_WSTART,
+    BH_WEND,
+    BH_DYDX,
+    BH_COLOR0,
+    BH_COLOR1,
+    BH_CONTROL,
+    BH_PSIZE,
+    BH_PMASK,
+    BH_SEED
+};
+
 /* The results of PIXT and DRAV are four numbers: pixels visited (0 or 1), V (0 or 1), window
    violation request (0 or 1), and one that each call names. */
 #define BH_PIXEL_RESULTS 4
+enum { BH_PIXEL_VISITED, BH_PIXEL_V, BH_PIXEL_REQUEST, BH_PIXEL_VALUE };
 
 /* What the five calls below share. v is V before the call: 0, or anything else for 1. A refused
    call hands it back as 0 or 1. The settings stay. Each answers 9 where there are less than 13
@@ -121,10 +149,10 @@ uint32_t bh_pixt_to_xy(uint16_t *memory, size_t words, const uint32_t *settings,
 
 /* PIXT memory to register: out[3] is the pixel with masked bits 0, zero extended. The memory stays,
    and V is kept. Answers 0, 9, 10, 11, 12, 16 or 17; at an XY address also 13. */
-uint32_t bh_pixt_from_linear(uint16_t *memory, size_t words, const uint32_t *settings,
+uint32_t bh_pixt_from_linear(const uint16_t *memory, size_t words, const uint32_t *settings,
                              size_t settings_length, uint32_t address, uint32_t v, uint32_t *out,
                              size_t out_length);
-uint32_t bh_pixt_from_xy(uint16_t *memory, size_t words, const uint32_t *settings,
+uint32_t bh_pixt_from_xy(const uint16_t *memory, size_t words, const uint32_t *settings,
                          size_t settings_length, uint32_t xy, uint32_t v, uint32_t *out,
                          size_t out_length);
 
@@ -161,6 +189,15 @@ uint32_t bh_drav(uint16_t *memory, size_t words, const uint32_t *settings, size_
    part of it that lies inside, DADDR its upper left pixel. In all other cases the registers are
    those of the settings. */
 #define BH_DRAW_RESULTS 7
+enum {
+    BH_DRAW_PLACE,
+    BH_DRAW_VISITED,
+    BH_DRAW_V,
+    BH_DRAW_REQUEST,
+    BH_DRAW_SADDR,
+    BH_DRAW_DADDR,
+    BH_DRAW_DYDX
+};
 
 /* FILL or PIXBLT, one of the eight operations above, with the settings of PIXT and DRAV. place is
    the number of pixels already visited, 0 at first, and the call visits at most budget more. v is V
@@ -183,6 +220,7 @@ uint32_t bh_outcome(size_t words, uint32_t operation, const uint32_t *settings,
 /* The time of a FILL is four numbers, in machine states: setup, transfer, adjustment, and the whole
    time, which is setup and transfer less the adjustment. */
 #define BH_FILL_RESULTS 4
+enum { BH_FILL_SETUP, BH_FILL_TRANSFER, BH_FILL_ADJUSTMENT, BH_FILL_STATES };
 
 /* The time of a whole drawing, from place 0 to its end, over a memory of so many words, by 000
    section 13.3 and its tables 13-5 to 13-7; CD (CONTROL bit 15) adds 3 states to the setup. All
@@ -199,6 +237,9 @@ uint32_t bh_fill_states(size_t words, uint32_t operation, const uint32_t *settin
    each of 0 to 3 once, a start address is 2^23 or more, or two segments with a flag have the same
    one. */
 #define BH_CACHE_NUMBERS 12
+
+/* Where each of the three groups of four numbers starts. */
+enum { BH_CACHE_SEGMENT = 0, BH_CACHE_FLAGS = 4, BH_CACHE_ORDER = 8 };
 
 /* A fresh cache, as the initial value of an array. */
 #define BH_CACHE_FRESH { 0, 0, 0, 0, 0, 0, 0, 0, 0, 1, 2, 3 }
@@ -230,7 +271,7 @@ uint32_t bh_changed(const uint16_t *before, size_t words_before, const uint16_t 
 /* ---- Plans ---- */
 
 /* The names of a plan are numbered in this order: SADDR 0, SPTCH, DADDR, DPTCH, OFFSET, WSTART,
-   WEND, DYDX, COLOR0, COLOR1, CONTROL 10, PSIZE, PMASK, SEED 13. */
+   WEND, DYDX, COLOR0, COLOR1, CONTROL 10, PSIZE, PMASK, SEED 13: BH_SADDR to BH_SEED. */
 #define BH_NAMES 14
 
 /* A table has a plan's axes one after another: of each the number of its name, how many values it
@@ -240,10 +281,14 @@ uint32_t bh_changed(const uint16_t *before, size_t words_before, const uint16_t 
    PMASK; 2^32 or more for every other but SEED). */
 #define BH_TABLE 528
 
+/* From the start of an axis in the table: its name, how many values it has, and the first one. */
+enum { BH_AXIS_NAME, BH_AXIS_COUNT, BH_AXIS_VALUES };
+
 /* The results of reading are five numbers: the line of the refusal (0 where there is none), the
    words of the memory, the drawing (0 to 7, in the order of BH_FILL_L and the others), and how many
    axes and points there are. */
 #define BH_PLAN_RESULTS 5
+enum { BH_PLAN_LINE, BH_PLAN_WORDS, BH_PLAN_DRAW, BH_PLAN_AXES, BH_PLAN_POINTS };
 
 /* Reads a plan: its axes go to the start of the table, the results to out. A refused plan has 0 for
    all results but the line, and leaves the table as it was. Answers 0, 9 (the table has less than

@@ -90,7 +90,7 @@ uint32_t expect_out(uint32_t out[OUTS], size_t length, const uint32_t *result, s
 {
     clear_out(out);
     if (length < results)
-        return BH_SHORT;
+        return BH_BAD_ARGUMENT;
     for (size_t i = 0; i < results; i++)
         out[i] = result[i];
     return answer;

@@ -20,7 +20,7 @@ void compare_changed(const uint16_t *a, uint64_t words_a, const uint16_t *b, uin
     calls++;
     uint32_t answer = bh_changed(a, words_a, b, words_b, out, length);
     struct changed_answer r = changed_bits(ma, mb);
-    uint32_t wanted = length < 1 ? BH_SHORT : (uint32_t)r.answer;
+    uint32_t wanted = length < 1 ? BH_BAD_ARGUMENT : (uint32_t)r.answer;
     uint64_t count = length < 1 ? GUARD : r.count;
     if (answer == wanted && out[0] == count && out[1] == GUARD)
         return;

@@ -243,7 +243,7 @@ static struct draw_result call_dry(const struct draw_case *c, bool *kept)
 static struct draw_result call_model(const struct draw_case *c, uint16_t *word)
 {
     struct memory m = { word, c->words };
-    struct draw_result r = { BH_SHORT, { 0 } };
+    struct draw_result r = { BH_BAD_ARGUMENT, { 0 } };
     clear_result(&r);
     if (c->operation >= OPERATIONS || settings_are_bad(c->number, c->count)
         || c->length < BH_DRAW_RESULTS)
@@ -712,7 +712,7 @@ static bool expected(int kind, int answer)
 {
     if (answer == REFUSED_WINDOW)
         return draws_to_xy((uint32_t)kind);
-    return answer <= STOPPED || answer >= BH_SHORT;
+    return answer <= STOPPED || answer >= BH_BAD_ARGUMENT;
 }
 
 /* The number of answers that never came. */
@@ -721,22 +721,23 @@ static int print_answers(void)
     int missing = 0;
     printf("%-13s", "answers");
     for (int answer = 0; answer < ANSWERS; answer++) {
-        if (answer <= STOPPED || answer >= BH_SHORT)
+        if (answer <= STOPPED || answer >= BH_BAD_ARGUMENT)
             printf(" %7d", answer);
     }
     printf(" %9s %7s %7s\n", "pixels", "V=1", "request");
     for (int kind = 0; kind < OPERATIONS; kind++) {
         printf("%-13s", operation_name[kind]);
         for (int answer = 0; answer < ANSWERS; answer++) {
-            if (answer <= STOPPED || answer >= BH_SHORT)
+            if (answer <= STOPPED || answer >= BH_BAD_ARGUMENT)
                 printf(" %7llu", (unsigned long long)answered[kind][answer]);
             missing += expected(kind, answer) && answered[kind][answer] == 0;
         }
         printf(" %9llu %7llu %7llu\n", (unsigned long long)pixels_visited[kind],
                (unsigned long long)v_set[kind], (unsigned long long)requests[kind]);
     }
-    printf("%-13s %23llu\n", "no operation", (unsigned long long)answered[OPERATIONS][BH_SHORT]);
-    return missing + (answered[OPERATIONS][BH_SHORT] == 0);
+    printf("%-13s %23llu\n", "no operation",
+           (unsigned long long)answered[OPERATIONS][BH_BAD_ARGUMENT]);
+    return missing + (answered[OPERATIONS][BH_BAD_ARGUMENT] == 0);
 }
 
 static int print_features(void)

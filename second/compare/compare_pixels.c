@@ -106,7 +106,7 @@ static void count_answer(const struct pixel_case *c, uint32_t answer, const uint
 {
     enum form form = c->form;
     answered[form][answer]++;
-    if (answer == BH_SHORT)
+    if (answer == BH_BAD_ARGUMENT)
         return;
     corners_ignored[form] += answer == DONE && (c->number[AT_CONTROL] >> 8 & 3) != 0;
     pixels_visited[form] += out[0];

@@ -125,7 +125,7 @@ static void compare_read(size_t table_length, size_t out_length)
     guard_long(out, READ_OUTS);
     guard_long(expected, READ_OUTS);
     if (table_length < BH_TABLE || out_length < BH_PLAN_RESULTS) {
-        answer = BH_SHORT;
+        answer = BH_BAD_ARGUMENT;
         guard_long(expected_table, TABLES);
     } else {
         bool accepted = model.answer == DONE;
@@ -188,7 +188,7 @@ static void compare_point_of(uint64_t axes, uint64_t number, size_t out_length)
 {
     uint64_t out[VALUES], expected[VALUES];
     struct point_answer p = plan_point(&model, number);
-    uint32_t answer = out_length < BH_NAMES ? BH_SHORT : (uint32_t)p.answer;
+    uint32_t answer = out_length < BH_NAMES ? BH_BAD_ARGUMENT : (uint32_t)p.answer;
     if (answer == DONE && number >= points)
         answer = REFUSED_POINT;
     guard_long(out, VALUES);
@@ -364,7 +364,7 @@ static void call_lines(const struct lines_call *c, uint32_t answer, uint64_t byt
     size_t words = held_words();
     guard_long(written, 1 + BEHIND);
     guard_long(expected, 1 + BEHIND);
-    if (answer != BH_SHORT)
+    if (answer != BH_BAD_ARGUMENT)
         expected[0] = bytes;
     calls++;
     uint32_t mine = bh_lines(table, c->table_length, c->axes, c->draw, c->first, c->count, image,
@@ -400,7 +400,7 @@ static void compare_refused_batch(void)
 {
     uint64_t first = random_point(), count = 1 + random_below(5);
     struct lines_call c = good_call(first, count);
-    uint32_t answer = BH_SHORT;
+    uint32_t answer = BH_BAD_ARGUMENT;
     switch (random_below(10)) {
     case 0: c.image_words = c.image_words - 1; break;
     case 1: c.memory_words = c.memory_words + 1 + random_below(BEHIND); break;
@@ -697,11 +697,12 @@ void compare_plans(uint64_t count)
     int missing = print_plan_answers(), other = print_plan_features();
     printf("bh_lines: %llu answered 0, %llu 9, %llu 10, %llu 24; "
            "bh_experiment: %llu 0, %llu 9, %llu 24\n",
-           (unsigned long long)lines_by_answer[DONE], (unsigned long long)lines_by_answer[BH_SHORT],
+           (unsigned long long)lines_by_answer[DONE],
+           (unsigned long long)lines_by_answer[BH_BAD_ARGUMENT],
            (unsigned long long)lines_by_answer[BH_NO_MEMORY],
            (unsigned long long)lines_by_answer[REFUSED_POINT],
            (unsigned long long)experiments_by_answer[DONE],
-           (unsigned long long)experiments_by_answer[BH_SHORT],
+           (unsigned long long)experiments_by_answer[BH_BAD_ARGUMENT],
            (unsigned long long)experiments_by_answer[REFUSED_POINT]);
     printf("tables: %llu held, %llu not, of %llu with a value too large for its name; runs of no "
            "point: %llu\n",

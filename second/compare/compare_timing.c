@@ -20,7 +20,7 @@ static struct draw_result library_time(const struct draw_case *c, bool *kept)
 /* What the interface answers by 9 never gets to the model. */
 static struct draw_result model_time(const struct draw_case *c)
 {
-    struct draw_result r = { BH_SHORT, { 0 } };
+    struct draw_result r = { BH_BAD_ARGUMENT, { 0 } };
     clear_result(&r);
     if (c->operation >= OPERATIONS || settings_are_bad(c->number, c->count)
         || c->length < BH_FILL_RESULTS)
@@ -274,7 +274,7 @@ static int print_counts(const char *name, const uint64_t *number, int count)
 /* 15 is no answer of the time: it has no place. */
 static int print_times_by_answer(void)
 {
-    static const int answer[9] = { DONE, BH_SHORT, 10, 11, 12, 13, 14, 16, 17 };
+    static const int answer[9] = { DONE, BH_BAD_ARGUMENT, 10, 11, 12, 13, 14, 16, 17 };
     int missing = 0;
     printf("times of the drawings:");
     for (int i = 0; i < 9; i++) {

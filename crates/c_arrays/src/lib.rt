@@ -9,7 +9,7 @@ ghost use Rattle.c_arrays.specs.Out.{flagNumber};
 ghost use Rattle.c_arrays.specs.Settings.{tooLargeAt, badSettings};
 use settings::Settings;
 
-// The answer to bad arguments (`badCall` of the specs, BH_SHORT of the header).
+// The answer to bad arguments (`badCall` of the specs, BH_BAD_ARGUMENT of the header).
 pub const BAD_CALL: u32 = 9;
 
 // A flag as a number.
