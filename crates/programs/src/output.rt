@@ -20,30 +20,29 @@ pub fn within(n: usize, buffer: &[u8]) -> usize
     if n < buffer.len() { n } else { buffer.len() }
 }
 
-// Writes whole lines to a descriptor; a line on standard error where that fails, and then no part
-// of a line is left in a file.
+// Writes whole lines of sweep's to a descriptor.
 pub fn lines(fd: i32, bytes: &[u8]) -> i32 {
+    if fd == STDOUT_FILENO {
+        return lines_to(b"sweep: standard output", fd, bytes);
+    }
+    lines_to(b"sweep: FILE", fd, bytes)
+}
+
+// Writes whole lines to a descriptor; a line on standard error, which begins with the program and
+// what the descriptor is, where that fails, and then no part of a line is left in a file.
+pub fn lines_to(name: &[u8], fd: i32, bytes: &[u8]) -> i32 {
     let mut at = 0;
     while at < bytes.len() {
         let rest = &bytes[at..];
         let n = io::count(libc::write(fd, rest), rest);
         if n == 0 {
-            failed(fd);
+            os::fail(name);
             cut(fd, unfinished(bytes, at));
             return ERROR;
         }
         at += n;
     }
     DONE
-}
-
-// The line on standard error of a failed write.
-fn failed(fd: i32) {
-    if fd == STDOUT_FILENO {
-        os::fail(b"sweep: standard output");
-    } else {
-        os::fail(b"sweep: FILE");
-    }
 }
 
 // How many of the first `end` bytes stand behind the last line's end.

@@ -48,11 +48,7 @@ fn error(line: &[u8]) -> i32 {
 }
 
 fn write(bytes: &[u8]) -> i32 {
-    if io::write_all(STDOUT_FILENO, bytes) {
-        return output::DONE;
-    }
-    os::fail(b"point: standard output");
-    output::ERROR
+    output::lines_to(b"point: standard output", STDOUT_FILENO, bytes)
 }
 
 // Reads the plan.

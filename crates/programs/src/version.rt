@@ -4,6 +4,7 @@ ghost use Prim.Native.Nat.{_≤_};
 ghost use lib.ListN.{length};
 use crate::input;
 use crate::output;
+use crate::shown;
 use libc::PATH_MAX;
 
 // Writes the file to standard output; a line on standard error, which begins with the program's
@@ -56,5 +57,14 @@ fn copied(program: &[u8], path: &[u8]) -> i32 {
     let mut space = io::buffer();
     let n = io::read_full(fd, &mut space);
     libc::close(fd);
-    output::lines(libc::STDOUT_FILENO, &space[..n])
+    told(program, &space[..n])
+}
+
+// Writes its lines.
+fn told(program: &[u8], bytes: &[u8]) -> i32 {
+    let mut name = [0u8; shown::LINE];
+    let start = put_bytes::bytes(&mut name, 0, program);
+    let end = put_bytes::bytes(&mut name, start, b"standard output");
+    let n = output::within(end, &name);
+    output::lines_to(&name[..n], libc::STDOUT_FILENO, bytes)
 }
