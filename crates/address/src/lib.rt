@@ -1,8 +1,10 @@
 // Coordinates, addresses and pitches.
-ghost use Rattle.std.specs.Prelude.{◌≡◌, ◌*◌};
+ghost use Rattle.std.specs.Prelude.{◌≡◌, ◌-◌};
 ghost use Rattle.address.specs.Address.{xy_address, bad_xy_pitch, bad_linear_pitch, misaligned};
-ghost use Rattle.address.specs.Coordinate.{x_of, y_of, negative, outside, outside_xy};
+ghost use Rattle.address.specs.Coordinate.{x_of, y_of, negative, outside_xy};
 ghost use Rattle.address.specs.Coordinate.{half_of, register_of};
+
+use walk::Walk;
 
 // 2^16: the low half of a register is what is left of it, the high half how often it has it.
 pub const HALF: u32 = 65536;
@@ -33,51 +35,39 @@ pub fn negative(c: u32) -> bool
     c < ZERO
 }
 
-// 16 of an XY start: does its X or Y lie outside 0 to 32,767?
+// 16 of an XY start: is its X or Y negative?
 pub fn outside_xy(x: u32, y: u32) -> bool
     ensures { result ≡ outside_xy x y }
 {
-    outside(x) | outside(y)
-}
-
-// Is a coordinate below 0 or above 32,767?
-fn outside(c: u32) -> bool
-    ensures { result ≡ outside c }
-{
-    negative(c) | (HALF <= c)
+    negative(x) | negative(y)
 }
 
 // The register of two coordinates.
 pub fn register_of(x: u16, y: u16) -> u32
     ensures { result ≡ register_of x y }
 {
-    half_of(y as u32) as u32 * HALF + half_of(x as u32) as u32
+    half_of(y) * HALF + half_of(x)
 }
 
 // The half of a coordinate.
-fn half_of(c: u32) -> u16
+fn half_of(c: u16) -> u32
     ensures { result ≡ half_of c }
 {
-    ((c % HALF + ZERO) % HALF) as u16
+    (c as u32 + ZERO) % HALF
 }
 
 // ---- addresses and pitches
 
-// The linear address of an XY start: Y's half rotated, joined by or to X times the pixel size, and
-// OFFSET added.
+// The linear address of an XY start.
 pub fn xy_address(offset: u32, pitch: u32, psize: u16, x: u32, y: u32) -> u32
     ensures { result ≡ xy_address offset pitch psize x y }
 {
-    let across = product(half_of(x), psize);
-    let down = rotation::rotated_half(half_of(y), pitch);
-    std::num::wrapping_add_u32(offset, down | across)
-}
-
-// The product of two numbers of 16 bits fits 32.
-fn product(a: u16, b: u16) -> u32
-    ensures { result ≡ a * b }
-{
-    a as u32 * b as u32
+    let origin = Walk {
+        start: offset,
+        pitch,
+        step: psize as u32,
+    };
+    walk::address_at(origin, less(y, ZERO), less(x, ZERO))
 }
 
 // Refusal 13 for an XY array or a lone XY pixel. A power of two, and no other number but 0, has
@@ -106,4 +96,11 @@ pub fn misaligned(psize: u16, address: u32) -> bool
         return address != 0;
     }
     address % (psize as u32) != 0
+}
+
+// a - b, or 0 if negative.
+fn less(a: u32, b: u32) -> u32
+    ensures { result ≡ a - b }
+{
+    if b < a { a - b } else { 0 }
 }

@@ -1,6 +1,6 @@
 -- `misaligned` meets its contract. Assumes nothing.
 use native.Mathlib.Nat.{mod-zero}
-use Rattle.std.proofs.Common.{rules}
+use borrow.Author.Rules.{rules}
 use Rattle.address.proofs.misaligned.Statement.{statement}
 use Rattle.address.proofs.misaligned.Tie as tie
 
