@@ -12,7 +12,7 @@ use values::{Block, FieldTest};
 
 // What an `axis` line is: 0 or its refusal, its name's number, and how many values it has, at most
 // 64.
-#[derive(Drop)]
+#[derive(Clone, Copy)]
 pub struct AxisLine {
     pub refusal: u32,
     pub name: u64,

@@ -1,6 +1,7 @@
 // The instruction cache (scope, "Cache"; 004 section 5.4): four segments of eight subsegments, and
 // the order of last use. No public function has a requires: a state that is no cache's is refused
 // with 19 and handed back.
+#![tactic(auto)]
 ghost use Rattle.std.specs.Prelude.{◌≡◌, false, ◌<◌};
 ghost use Rattle.segments.specs.Segments.{segment_count, flag_count};
 ghost use Rattle.cache.specs.Cache.{bad_state, fetch_refusal, with_segment, lookup};
@@ -12,13 +13,13 @@ use segments::{FLAGS, SEGMENTS, Segment};
 const SEGMENT_BITS: u32 = 512;
 
 // order[0] is the least recently used segment and order[3] the latest.
-#[derive(Drop)]
+#[derive(Clone, Copy)]
 pub struct Cache {
     pub segments: [Segment; SEGMENTS],
     pub order: [u8; SEGMENTS],
 }
 
-#[derive(Drop)]
+#[derive(Clone, Copy)]
 pub enum Kind {
     Hit,
     SubsegmentMiss,
@@ -27,7 +28,7 @@ pub enum Kind {
     Refused,
 }
 
-#[derive(Drop)]
+#[derive(Clone, Copy)]
 pub struct Fetched {
     pub kind: Kind,
     pub cache: Cache,

@@ -156,7 +156,7 @@ fn seed_of(values: &[u64]) -> u64
 }
 
 // A register's coordinates, as they are held.
-#[derive(Drop)]
+#[derive(Clone, Copy)]
 struct XY {
     x: u64,
     y: u64,
@@ -172,7 +172,7 @@ fn xy_of(register: u32) -> XY
 }
 
 // The parts of CONTROL.
-#[derive(Drop)]
+#[derive(Clone, Copy)]
 struct Parts {
     pp: u64,
     t: u64,

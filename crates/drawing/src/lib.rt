@@ -18,7 +18,7 @@ pub const UNLIMITED: u64 = u64::MAX;
 
 // What a call hands back: 0 done, 1 stopped, else the refusal's number; the new place; the pixels
 // visited by this call; V and the request; the registers; the settings as given.
-#[derive(Drop)]
+#[derive(Clone, Copy)]
 pub struct Outcome {
     pub answer: u32,
     pub place: u64,

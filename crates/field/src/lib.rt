@@ -1,5 +1,6 @@
 // Fields of 1 to 32 bits at any bit address of a lent memory: read and write. A call takes a size;
 // all below it takes the bits that the size means.
+#![tactic(auto)]
 ghost use Rattle.std.specs.Prelude.{◌≡◌, ℕ, ◌+◌, ◌*◌, ◌/◌, ◌%◌, ◌^◌, ◌<◌, ◌≤◌, length};
 ghost use Rattle.memory.specs.Bits.{Memory, bit_at, bits_number, with_bits, with_field};
 ghost use Rattle.field.specs.Field.{field_refusal, register, field_read, field_written};
@@ -11,7 +12,7 @@ const WORDS: u64 = 65536;
 const REGISTERS: u64 = 4294967296;
 
 // The answer, 0 or the refusal's number, and the register of 32 bits.
-#[derive(Drop)]
+#[derive(Clone, Copy)]
 pub struct FieldRead {
     pub answer: u32,
     pub value: u32,

@@ -1,5 +1,6 @@
 // FILL timing on plain numbers (000 section 13.3): tables 13-5 to 13-7, and the rule over them. No
 // public function has a requires.
+#![tactic(auto)]
 ghost use Rattle.std.specs.Prelude.{◌≡◌, cond, ◌^◌, ◌≤◌, ◌<◌};
 ghost use Rattle.fill_tables.specs.Tables.{setup_l, setup_xy};
 ghost use Rattle.fill_tables.specs.Tables.{transfer_entry, word_states, edge_states};
@@ -7,7 +8,7 @@ ghost use Rattle.fill_tables.specs.Time.{setup_time, words_of, alignment_of, len
 ghost use Rattle.fill_tables.specs.Time.{processing_column, transfer_time, adjustment, time_of};
 
 // What the window does to a FILL XY: the columns of table 13-5.
-#[derive(Drop)]
+#[derive(Clone, Copy)]
 pub enum Adjust {
     Off,
     Fits,
@@ -17,7 +18,7 @@ pub enum Adjust {
 }
 
 // Which edges of a row are on word bounds: both, the leading one, the trailing one, neither.
-#[derive(Drop)]
+#[derive(Clone, Copy)]
 pub enum Alignment {
     A,
     B,
@@ -26,7 +27,7 @@ pub enum Alignment {
 }
 
 // An entry of table 13-6: states for each row, and at the end.
-#[derive(Drop)]
+#[derive(Clone, Copy)]
 pub struct Entry {
     pub row: u64,
     pub end: u64,
@@ -35,7 +36,7 @@ pub struct Entry {
 // What the time of a FILL goes by: is it FILL XY, what does the window do to it, is the cache
 // disabled, PP, is there plane masking or transparency; the address and the bits of a row, and the
 // rows.
-#[derive(Drop)]
+#[derive(Clone, Copy)]
 pub struct Fill {
     pub xy: bool,
     pub adjust: Adjust,
@@ -48,7 +49,7 @@ pub struct Fill {
 }
 
 // The time of a FILL in machine states: its parts, and setup and transfer less the adjustment.
-#[derive(Drop)]
+#[derive(Clone, Copy)]
 pub struct Time {
     pub setup: u64,
     pub transfer: u64,

@@ -10,7 +10,7 @@ use settings::Settings;
 use windows::{Clipped, Rectangle};
 
 // The answer of a whole drawing, 0 or the refusal's number, and its time.
-#[derive(Drop)]
+#[derive(Clone, Copy)]
 pub struct FillStates {
     pub answer: u32,
     pub time: Time,

@@ -9,7 +9,7 @@ use windows::{Clipped, Rectangle};
 
 // A lone pixel: the refusal's number or 0, whether there is a pixel to draw or read, its address, V
 // and the request.
-#[derive(Drop)]
+#[derive(Clone, Copy)]
 pub struct Lone {
     pub answer: u32,
     pub some: bool,

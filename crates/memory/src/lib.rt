@@ -42,7 +42,7 @@ pub fn bit_at(memory: &[u16], address: u64) -> u16
 }
 
 // The answer, 0 or the refusal's number, and the count of bits that differ.
-#[derive(Drop)]
+#[derive(Clone, Copy)]
 pub struct BitCount {
     pub answer: u32,
     pub bits: u64,

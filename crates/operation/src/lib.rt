@@ -6,7 +6,7 @@ ghost use Rattle.operation.specs.Operation.{walks_to_corner, copies, copies_pixe
 use plot::Source;
 
 // The eight drawings, in the scope's order.
-#[derive(Drop)]
+#[derive(Clone, Copy)]
 pub enum Operation {
     FillL,
     FillXY,

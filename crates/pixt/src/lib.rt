@@ -12,7 +12,7 @@ use walk::Walk;
 
 // The answer, 0 or the refusal's number; pixels visited; V and the request; the register's value
 // after a read; the settings as given.
-#[derive(Drop)]
+#[derive(Clone, Copy)]
 pub struct PixtResult {
     pub answer: u32,
     pub visited: u32,

@@ -21,7 +21,7 @@ pub const TEXT: usize = 65536;
 // What reading a plan gives: 0 or the refusal, its line, the memory's words, the drawing's number
 // in the scope's order, and how many axes and points there are. A refused plan has only the answer
 // and the line.
-#[derive(Drop)]
+#[derive(Clone, Copy)]
 pub struct Plan {
     pub answer: u32,
     pub line: u64,
@@ -54,7 +54,7 @@ pub fn read(text: &[u8], table: &mut [u64]) -> Plan
 }
 
 // A line of the text: where it starts, where it ends, and its number.
-#[derive(Drop)]
+#[derive(Clone, Copy)]
 struct Cursor {
     at: usize,
     end: usize,
@@ -62,7 +62,7 @@ struct Cursor {
 }
 
 // A reader of a plan: its text, the place where its next line starts, and that line's number.
-#[derive(Drop)]
+#[derive(Clone, Copy)]
 struct Reader<'a> {
     text: &'a [u8],
     at: usize,
@@ -72,7 +72,7 @@ struct Reader<'a> {
 // What is held of the lines read so far: is another one wanted, the plan up to here, which names
 // came, and where each axis line starts. Before the memory line the plan has no words, before the
 // draw line DRAWING_COUNT for the drawing.
-#[derive(Drop)]
+#[derive(Clone, Copy)]
 struct State {
     wanted: bool,
     plan: Plan,

@@ -16,7 +16,7 @@ const ONES: u32 = 4294967295;
 
 // What a destination pixel is drawn from: COLOR1, a source pixel, or one bit that chooses COLOR1 or
 // COLOR0.
-#[derive(Drop)]
+#[derive(Clone, Copy)]
 pub enum Source {
     Color,
     Pixels,
@@ -25,7 +25,7 @@ pub enum Source {
 
 // A drawing, after the window: columns and rows, destination and source walks, and what is done to
 // each pixel.
-#[derive(Drop)]
+#[derive(Clone, Copy)]
 pub struct Drawing {
     pub cols: u16,
     pub rows: u16,

@@ -1,4 +1,5 @@
 // The refusals 10 to 17 of the calls that take settings.
+#![tactic(auto)]
 ghost use Rattle.std.specs.Prelude.{◌≡◌};
 ghost use Rattle.refusal.specs.Refusal.{refusal_table, lowest, bad_window_of};
 
@@ -7,7 +8,7 @@ use settings::Settings;
 // What a call tests besides memory, PSIZE and CONTROL: each test is true where its number is given.
 // 13, a pitch that is used is bad; 14, the window is; 15, the place is too great; 16, a start is
 // bad; 17, some pixel or source bit lies past the memory's end.
-#[derive(Drop)]
+#[derive(Clone, Copy)]
 pub struct Tests {
     pub pitch: bool,
     pub window: bool,

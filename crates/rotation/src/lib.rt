@@ -1,4 +1,5 @@
 // log2 of a pitch, and Y's part of an XY address.
+#![tactic(auto)]
 ghost use Rattle.std.specs.Prelude.{◌≡◌, ◌+◌, ◌*◌, ◌^◌};
 ghost use Rattle.rotation.specs.Rotation.{log2, rotated_left};
 

@@ -60,7 +60,7 @@ fn run_over(image: &[u16], memory: &mut [u16], op: Operation, s: Settings) -> Ra
 }
 
 // The settings and the seed of a point.
-#[derive(Drop)]
+#[derive(Clone, Copy)]
 struct Experiment {
     settings: Settings,
     seed: u64,
@@ -101,7 +101,7 @@ fn put_line(out: &mut [u8], at: usize, point: u64, ran: Ran) -> usize
 
 // What a run has done before a point: whether an image was made, its seed, and the bytes of
 // listing.
-#[derive(Drop)]
+#[derive(Clone, Copy)]
 struct Progress {
     made: bool,
     seed: u64,

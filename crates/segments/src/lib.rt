@@ -1,5 +1,6 @@
 // The four segments of the instruction cache: what makes them no state of a cache, and which one a
 // fetch matches. No public function has a requires.
+#![tactic(auto)]
 ghost use Rattle.std.specs.Prelude.{◌≡◌, cond, ltb};
 ghost use Rattle.lists.specs.Search.{any, first, any_pair};
 ghost use Rattle.segments.specs.Segments.{segment_count, holds_some, too_high, clash, matches};
@@ -14,7 +15,7 @@ pub const FLAGS: usize = 8;
 const MOST_START: u32 = 8388607;
 
 // Bits 9 to 31 of the segment's bit address, and a flag for each of its subsegments of 4 words.
-#[derive(Drop)]
+#[derive(Clone, Copy)]
 pub struct Segment {
     pub start: u32,
     pub present: [bool; FLAGS],

@@ -1,9 +1,10 @@
 // The settings of a drawing: the scope's thirteen names, in its order. CONTROL, PSIZE and PMASK are
 // 16 bits wide.
+#![tactic(auto)]
 ghost use Rattle.std.specs.Prelude.{◌≡◌, ◌%◌, ◌^◌, get_or};
 ghost use Rattle.settings.specs.Settings.{settings_of};
 
-#[derive(Drop)]
+#[derive(Clone, Copy)]
 pub struct Settings {
     pub saddr: u32,
     pub sptch: u32,

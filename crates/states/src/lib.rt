@@ -1,4 +1,5 @@
 // The machine states of MOVE memory to register. No public function has a requires.
+#![tactic(auto)]
 ghost use Rattle.std.specs.Prelude.{◌≡◌, ◌≤◌};
 ghost use Rattle.states.specs.MoveStates.{cached_states, uncached_states, base_states};
 ghost use Rattle.states.specs.MoveStates.{mode_states, sign_states, move_states};
@@ -6,7 +7,7 @@ ghost use Rattle.states.specs.MoveStates.{mode_states, sign_states, move_states}
 use timing::Case;
 
 // How MOVE names its source.
-#[derive(Drop)]
+#[derive(Clone, Copy)]
 pub enum Mode {
     Indirect,
     Postincrement,
@@ -14,7 +15,7 @@ pub enum Mode {
 }
 
 // The answer, 0 or the refusal's number, and the machine states.
-#[derive(Drop)]
+#[derive(Clone, Copy)]
 pub struct States {
     pub answer: u32,
     pub states: u32,

@@ -1,4 +1,5 @@
 // Text: the part up to a mark, decimal numbers, and whether two parts are the same bytes.
+#![tactic(auto)]
 ghost use Rattle.std.specs.Prelude.{◌≡◌, ◌+◌, length, drop};
 ghost use Rattle.text.specs.Text.{up_to, same};
 ghost use Rattle.text.specs.Part.{PartOf};
@@ -8,7 +9,7 @@ ghost use Rattle.text.specs.Number.{pushed, digits_of, number_of};
 const TENTH: u64 = u64::MAX / 10;
 
 // What a field is as a number.
-#[derive(Drop)]
+#[derive(Clone, Copy)]
 pub enum Number {
     Value(u64),
     Bad,

@@ -1,10 +1,11 @@
 // What a field move costs: the case of its alignment and size, and the memory cycles of a read and
 // of a write. No public function has a requires.
+#![tactic(auto)]
 ghost use Rattle.std.specs.Prelude.{◌≡◌};
 ghost use Rattle.timing.specs.Cycles.{case_of, read_cycles, write_cycles, cycles_of};
 
 // The cases of a field's alignment and size (003 section 4.1).
-#[derive(Drop)]
+#[derive(Clone, Copy)]
 pub enum Case {
     A,
     B,
@@ -16,7 +17,7 @@ pub enum Case {
 }
 
 // The answer, 0 or the refusal's number, and the memory cycles of a read and of a write.
-#[derive(Drop)]
+#[derive(Clone, Copy)]
 pub struct Cycles {
     pub answer: u32,
     pub read: u32,

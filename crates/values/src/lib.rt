@@ -6,7 +6,7 @@ ghost use Rattle.values.specs.Tests.{passes};
 ghost use Rattle.values.specs.Block.{BlockAt};
 
 // A test of a field.
-#[derive(Drop)]
+#[derive(Clone, Copy)]
 pub enum FieldTest {
     NoNumber,
     Above(u64),
@@ -53,7 +53,7 @@ pub const BLOCK: usize = 64;
 
 // Values of a line, read once: so many of them, the place behind them, is some field no number, and
 // is some value above a given one?
-#[derive(Drop)]
+#[derive(Clone, Copy)]
 pub struct Block {
     pub values: [u64; BLOCK],
     pub count: usize,

@@ -1,4 +1,5 @@
 // Walks: a start, and how far it is from row to row and from pixel to pixel, all modulo 2^32.
+#![tactic(auto)]
 ghost use Rattle.std.specs.Prelude.{◌≡◌, ◌*◌, ◌%◌, ◌^◌};
 ghost use Rattle.walk.specs.Walk.{address_at};
 
@@ -7,7 +8,7 @@ pub const ADDRESSES: u64 = 4294967296;
 
 // Where an array is walked: its first pixel's address, from one row to the next, and from one pixel
 // to the next. A pitch or step of 2^32 less something walks down.
-#[derive(Drop)]
+#[derive(Clone, Copy)]
 pub struct Walk {
     pub start: u32,
     pub pitch: u32,

@@ -1,4 +1,5 @@
 // Windows: what is drawn of a rectangle.
+#![tactic(auto)]
 ghost use Rattle.std.specs.Prelude.{◌≡◌, ◌-◌, max, min};
 ghost use Rattle.address.specs.Coordinate.{negative};
 ghost use Rattle.windows.specs.Window.{window_of, bad_window, bad_windowing, shared, all_in};
@@ -7,7 +8,7 @@ ghost use Rattle.windows.specs.Window.{nothing, unclipped, common_part, clipped,
 
 // A rectangle of pixels: its upper left coordinates, each held as itself plus 2^15, its columns and
 // its rows.
-#[derive(Drop)]
+#[derive(Clone, Copy)]
 pub struct Rectangle {
     pub x: u16,
     pub y: u16,
@@ -16,7 +17,7 @@ pub struct Rectangle {
 }
 
 // A window, which includes its ends; coordinates held as in a rectangle.
-#[derive(Drop)]
+#[derive(Clone, Copy)]
 pub struct Window {
     pub left: u16,
     pub top: u16,
@@ -26,7 +27,7 @@ pub struct Window {
 
 // What is drawn of a rectangle: columns skipped at its left, rows skipped above, columns and rows
 // kept; the request.
-#[derive(Drop)]
+#[derive(Clone, Copy)]
 pub struct Clipped {
     pub left: u16,
     pub above: u16,
