@@ -79,6 +79,7 @@ module _ {S : Type 0} {Good : S → Type 0} {count : ℕ → ℕ} {step : ℕ �
         → (js : List ℕ) → Distinct js → In j js → (m : S) → Good m
         → visits (step j) (p j) c (ordered step p js m) ≡ ordered step p' js m
     unfolding ordered
+    advance p' j c e o hc [] d x3 m g = elim x3 [ ]
     advance p' j c e o hc (x ∷ xs) d (inl q) m g =
         subst (λ y. (In y xs → ⊥)
         → visits (step j) (p j) c (ordered step p xs (upto (step y) (p y) m)) ≡ ordered step p' xs (upto (step y) (p' y) m)) q
@@ -109,6 +110,7 @@ module _ {S : Type 0} {Good : S → Type 0} {count : ℕ → ℕ} {step : ℕ �
 
       pub alone : (js : List ℕ) → Distinct js → In j js → (m : S) → Good m → obs (ordered step p js m) ≡ obs (upto (step j) (p j) m)
       unfolding ordered
+      alone [] d x3 m g = elim x3 [ ]
       alone (x ∷ xs) d (inl q) m g =
           subst (λ y. (In y xs → ⊥) → obs (ordered step p xs (upto (step y) (p y) m)) ≡ obs (upto (step j) (p j) m)) q
           (λ ni. obs-ordered xs ni (upto (step j) (p j) m) (upto-good j (p j) (fits j) m g))

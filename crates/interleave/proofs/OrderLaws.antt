@@ -8,6 +8,7 @@ use native.Mathlib.Omega.{arith}
 use Rattle.interleave.specs.Order.{In, Distinct, Order}
 
 pub in-ne : (j x : ℕ) (xs : List ℕ) → In j xs → (In x xs → ⊥) → j ≢ x
+in-ne j x [] x3 h = elim x3 [ ]
 in-ne j x (y ∷ ys) (inl e) h = λ p. h (inl (sym p ∙ e))
 in-ne j x (y ∷ ys) (inr i) h = in-ne j x ys i (λ k. h (inr k))
 
@@ -18,6 +19,7 @@ below (suc n) = n ∷ below n
 
 in-below-lt : (n j : ℕ) → In j (below n) → j < n
 unfolding below
+in-below-lt zero j x' = elim x' [ ]
 in-below-lt (suc n) j (inl e) = omega arith
 in-below-lt (suc n) j (inr i) = let h : j < n = in-below-lt n j i in omega arith
 

@@ -1,2 +1,3 @@
 // Jobs of steps over one memory, in any alternation: words in specs/, laws in
 // proofs/. There is no code here.
+#![tactic(auto)]
