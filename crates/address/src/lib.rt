@@ -1,5 +1,6 @@
 // Coordinates, addresses and pitches.
 #![tactic(auto)]
+
 ghost use Rattle.std.specs.Prelude.{◌≡◌, ◌-◌};
 ghost use Rattle.address.specs.Address.{xy_address, bad_xy_pitch, bad_linear_pitch, misaligned};
 ghost use Rattle.address.specs.Coordinate.{x_of, y_of, negative, outside_xy};

@@ -1,4 +1,5 @@
 // The bytes that formats name: definitions in specs/. There is no code here.
+#![tactic(auto)]
 
 // Between two fields stands a tab.
 pub const TAB: u8 = 9;

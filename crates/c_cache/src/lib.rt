@@ -1,4 +1,5 @@
 // The instruction cache for C: a fetch on lent arrays.
+#![tactic(auto)]
 ghost use Rattle.std.specs.Prelude.{◌≡◌};
 ghost use Rattle.c_cache.specs.Fetch.{FetchCall, kind_number, stays, state_after};
 

@@ -1,4 +1,5 @@
 // PIXT register to memory for C, on numbers and lent arrays.
+#![tactic(auto)]
 ghost use Rattle.c_pixt_to.specs.Calls.{PixtToLinearCall, PixtToXYCall};
 
 use c_arrays::BAD_CALL;

@@ -2,6 +2,7 @@
 // the order of last use. No public function has a requires: a state that is no cache's is refused
 // with 19 and handed back.
 #![tactic(auto)]
+
 ghost use Rattle.std.specs.Prelude.{◌≡◌, false, ◌<◌};
 ghost use Rattle.segments.specs.Segments.{segment_count, flag_count};
 ghost use Rattle.cache.specs.Cache.{bad_state, fetch_refusal, with_segment, lookup};

@@ -1,5 +1,6 @@
 // CONTROL, taken apart. No public function asks anything of its arguments.
 #![tactic(auto)]
+
 ghost use Rattle.std.specs.Prelude.{◌≡◌};
 ghost use Rattle.control.specs.Control.{transparency, windowing, right_to_left, bottom_to_top};
 ghost use Rattle.control.specs.Control.{processing, disabled, bad_control};

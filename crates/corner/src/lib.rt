@@ -1,6 +1,7 @@
 // The four starting corners of an array of pixels. No public function asks anything of its
 // arguments.
 #![tactic(auto)]
+
 ghost use Rattle.std.specs.Prelude.{◌≡◌};
 ghost use Rattle.corner.specs.Corner.{walked, turned, corner_of, from_corner};
 

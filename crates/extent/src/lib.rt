@@ -1,5 +1,6 @@
 // Does a walk stay in memory?
 #![tactic(auto)]
+
 ghost use Rattle.std.specs.Prelude.{◌≡◌, ◌-◌, ◌*◌, ◌^◌, ◌<◌, ◌≤◌};
 ghost use Rattle.walk.specs.Walk.{address_of};
 ghost use Rattle.extent.specs.Extent.{reaches, leaves_memory};

@@ -1,11 +1,11 @@
 -- A field in a window of one to three words: the window read and stored word by word, and the field in it. No contract cites this file.
 -- Assumes nothing.
-use mathlib.Core.Path.{◌≡◌, refl, sym, ap, ap₂, ◌∙◌}
+use mathlib.Core.Path.{◌≡◌, ap, ap₂, ◌∙◌}
 use mathlib.Core.List.{List}
-use Prim.Native.Nat.{ℕ, suc, ◌+◌, ◌-◌, ◌*◌, ◌/◌, ◌%◌, ◌^◌, ◌≤◌, ◌<◌}
+use Prim.Native.Nat.{ℕ, ◌+◌, ◌*◌, ◌/◌, ◌%◌, ◌^◌, ◌≤◌, ◌<◌}
 use native.Mathlib.Nat.{add_assoc, lt_of_lt_of_le, mod-lt}
 use native.Mathlib.Omega.{arith}
-use lib.ListN.{length, get_or, set}
+use lib.ListN.{get_or, set}
 use lib.Pow.{pow_pos, pow_mono, shl_exact}
 use Rattle.memory.specs.Bits.{Memory, bit_at, bits_number, with_bits, with_field}
 use Rattle.memory.proofs.NumberLaws.{number-add, number_lt, number-part}

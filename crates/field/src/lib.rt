@@ -1,6 +1,7 @@
 // Fields of 1 to 32 bits at any bit address of a lent memory: read and write. A call takes a size;
 // all below it takes the bits that the size means.
 #![tactic(auto)]
+
 ghost use Rattle.std.specs.Prelude.{◌≡◌, ℕ, ◌+◌, ◌*◌, ◌/◌, ◌%◌, ◌^◌, ◌<◌, ◌≤◌, length};
 ghost use Rattle.memory.specs.Bits.{Memory, bit_at, bits_number, with_bits, with_field};
 ghost use Rattle.field.specs.Field.{field_refusal, register, field_read, field_written};

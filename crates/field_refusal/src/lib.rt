@@ -1,5 +1,6 @@
 // The refusals of a field call: 10, 18 and 17, in that order. No public function has a requires.
 #![tactic(auto)]
+
 ghost use Rattle.std.specs.Prelude.{◌≡◌};
 ghost use Rattle.field_refusal.specs.Size.{bad_size, meant};
 ghost use Rattle.field_refusal.specs.Refusal.{field_refusal};

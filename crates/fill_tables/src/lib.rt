@@ -1,6 +1,7 @@
 // FILL timing on plain numbers (000 section 13.3): tables 13-5 to 13-7, and the rule over them. No
 // public function has a requires.
 #![tactic(auto)]
+
 ghost use Rattle.std.specs.Prelude.{◌≡◌, cond, ◌^◌, ◌≤◌, ◌<◌};
 ghost use Rattle.fill_tables.specs.Tables.{setup_l, setup_xy};
 ghost use Rattle.fill_tables.specs.Tables.{transfer_entry, word_states, edge_states};

@@ -1,6 +1,7 @@
 // The generator of images: one advance of it by value, and the struct that is lent and advanced in
 // place.
 #![tactic(auto)]
+
 ghost use Rattle.std.specs.Prelude.{◌≡◌};
 ghost use Rattle.generator.specs.Step.{stepped};
 

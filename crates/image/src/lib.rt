@@ -1,5 +1,6 @@
 // The image of a seed: the words that the generator gives over a lent memory.
 #![tactic(auto)]
+
 ghost use Rattle.std.specs.Prelude.{◌≡◌, ◌+◌, ◌<◌, ◌≤◌, length};
 ghost use Rattle.image.specs.Image.{image, image_refusal, imaged};
 ghost use Rattle.image.specs.Words.{stored_words};

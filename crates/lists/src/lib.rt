@@ -1,1 +1,3 @@
+#![tactic(auto)]
+
 // Searches in lists: definitions and laws only.

@@ -1,5 +1,6 @@
 // A lent run of 16-bit words: its bits, and the count of bits in which two memories differ.
 #![tactic(auto)]
+
 ghost use Rattle.std.specs.Prelude.{◌≡◌, ◌+◌, ◌-◌, ◌*◌, ◌^◌, ◌<◌, ◌≤◌, max, min, length, get_or};
 ghost use Rattle.memory.specs.Bits.{word_bits, most_words, no_memory, bit_at};
 ghost use Rattle.memory.specs.Changed.{changed_bits, counted};

@@ -1,6 +1,7 @@
 // The fourteen names and the eight drawings, each in the scope's order: the tables of specs/ as
 // code. No public function has a requires.
 #![tactic(auto)]
+
 ghost use Rattle.std.specs.Prelude.{◌≡◌, ◌+◌};
 ghost use Rattle.ascii.specs.Ascii.{joined};
 ghost use Rattle.names.specs.Names.{names, limit};

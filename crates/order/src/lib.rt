@@ -1,6 +1,7 @@
 // The order in which the four segments of the instruction cache were last used. No public function
 // has a requires.
 #![tactic(auto)]
+
 ghost use Rattle.std.specs.Prelude.{◌≡◌};
 ghost use Rattle.order.specs.Order.{bad_order, latest};
 

@@ -1,6 +1,7 @@
 // The pixel size, and the pixel of a word. A pixel of P bits is given by top, the greatest of them,
 // and its place in a word by its bit address. No public function asks anything of its arguments.
 #![tactic(auto)]
+
 ghost use Rattle.std.specs.Prelude.{◌≡◌};
 ghost use Rattle.pixel.specs.Pixel.{bad_pixel_size, top_of, pixel_of};
 

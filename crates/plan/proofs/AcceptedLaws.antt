@@ -1,6 +1,6 @@
 -- What an accepted plan has. No contract cites this file. Assumes nothing.
 use mathlib.Core.Path.{◌≡◌, refl}
-use mathlib.Core.List.{List, [], ◌∷◌}
+use mathlib.Core.List.{List, [], ◌∷◌, ◌++◌}
 use Prim.Native.Nat.{ℕ, ◌<◌, ◌≤◌}
 use native.Mathlib.Nat.{pos_of_ne-zero}
 use native.Mathlib.Omega.{arith}
@@ -15,7 +15,7 @@ use Rattle.points.specs.OneToOne.{Sound}
 use Rattle.line.specs.Words.{memory_word}
 use Rattle.tabs.specs.Fields.{field_value}
 use Rattle.line.specs.Line.{memory_of, draw_of}
-use Rattle.axis.specs.Axis.{axis_refusal}
+use Rattle.axis.specs.Axis.{axis_of, axis_refusal}
 use Rattle.plan.specs.Reading.{Line, kept_lines, Reading, text_limit, read_axes, read_draw, read_memory, reading}
 use Rattle.lists.proofs.TestLaws.{cond_both}
 use Rattle.plan.proofs.SoundLaws.{reading-sound}
@@ -55,7 +55,7 @@ axis_lines-keeps words draw axes (l ∷ []) =
     cond_both (Where (Keeps words draw)) (eqb (length l.bytes) 0) _ _ (λ q e. (refl, refl)) (λ q e. absurd (omega arith))
 axis_lines-keeps words draw axes (l ∷ m ∷ ls) =
     cond_both (Where (Keeps words draw)) (eqb (axis_refusal axes (fields_of l.bytes)) 0) _ _
-    (λ q. axis_lines-keeps words draw _ (m ∷ ls)) (λ q e. absurd (eqb-false _ _ q e))
+    (λ q. axis_lines-keeps words draw (axes ++ (axis_of (fields_of l.bytes) ∷ [])) (m ∷ ls)) (λ q e. absurd (eqb-false _ _ q e))
 
 -- the draw line keeps the words, and has one of the eight drawings
 abbrev Draws : ℕ → Reading → Type 0

@@ -5,7 +5,7 @@ pub mod TableLaws
 pub mod SoundLaws
 pub mod StateLaws
 pub mod TurnLaws
+pub mod ReadLaws
 pub mod StoreLaws
 pub mod AcceptedLaws
 pub mod PlanLaws
-pub mod ReaderLaws

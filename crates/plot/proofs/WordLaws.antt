@@ -2,7 +2,7 @@
 -- place, and the result's are put in. No contract cites this file. Assumes nothing.
 use mathlib.Core.Path.{◌≡◌, sym, ap, ap₂, subst, ◌∙◌}
 use mathlib.Core.Bool.{Bool, true, false, cond, ◌&&◌}
-use mathlib.Core.Logic.{◌⊎◌, ⊎_elim}
+use mathlib.Core.Logic.{⊎_elim}
 use Prim.Native.Nat.{ℕ, suc, ◌+◌, ◌-◌, ◌*◌, ◌/◌, ◌%◌, ◌^◌, ◌≤◌, ◌<◌, min}
 use native.Mathlib.Nat.{mod-lt, mod-eq_of_lt, add-mul, add-zero, zero-div, min-le_right}
 use native.Mathlib.Omega.{arith}
@@ -13,7 +13,7 @@ use lib.Pow.{pow_pos, pow_mono, split, high, low, ones_split, ones_lt, lt_of_le_
 use Rattle.memory.specs.Bits.{bit_of}
 use Rattle.memory.proofs.BitLaws.{bit-lt, bits-ext, bit-cases, bit-and, bit-or}
 use Rattle.pixel.specs.PixelOp.{complement, processed}
-use Rattle.pixel.specs.Pixel.{top_of, pixel_of, unmasked, result, pixel_after, with_pixel, word_after}
+use Rattle.pixel.specs.Pixel.{top_of, pixel_of, result, pixel_after, with_pixel, word_after}
 use Rattle.pixel.proofs.BitwiseLaws.{and_one, bit-complement}
 use Rattle.pixel.proofs.PixelLaws.{pixel_of-le, pixel_of-lt, complement-pixel_of-le}
 use Rattle.plot.specs.Word.{replaced}

@@ -1,5 +1,6 @@
 // A drawing, and a pixel of it drawn into its word.
 #![tactic(auto)]
+
 ghost use Rattle.std.specs.Prelude.{◌≡◌, suc, ◌+◌, ◌-◌, ◌*◌, ◌/◌, ◌%◌, ◌^◌, ◌≤◌, ◌<◌, min, max};
 ghost use Rattle.std.specs.Int.Bits.{bit_and};
 ghost use Rattle.pixel.specs.PixelOp.{complement, processed};

@@ -1,5 +1,6 @@
 // The refusals 10 to 17 of the calls that take settings.
 #![tactic(auto)]
+
 ghost use Rattle.std.specs.Prelude.{◌≡◌};
 ghost use Rattle.refusal.specs.Refusal.{refusal_table, lowest, bad_window_of};
 

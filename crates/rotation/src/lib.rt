@@ -1,5 +1,6 @@
 // log2 of a pitch, and Y's part of an XY address.
 #![tactic(auto)]
+
 ghost use Rattle.std.specs.Prelude.{◌≡◌, ◌+◌, ◌*◌, ◌^◌};
 ghost use Rattle.rotation.specs.Rotation.{log2, rotated_left};
 

@@ -3,7 +3,7 @@
 use Rattle.std.proofs.Common.{◌≡◌, ℕ, zero, suc, ◌+◌, ◌%◌, ◌^◌, ◌<◌, ◌≤◌, List, length, sym, refl, ap, ◌∙◌, add-one, arith}
 use Rattle.memory.specs.Bits.{Memory}
 use Rattle.pixel.proofs.PixelLaws.{length-plotted, memory-plotted}
-use Rattle.walk.specs.Walk.{address_at, start_at}
+use Rattle.walk.specs.Walk.{start_at}
 use Rattle.walk.proofs.WalkLaws.{address_at-start, address_at-across}
 use Rattle.plot.specs.declared.Drawing.{Drawing}
 use Rattle.row.specs.Row.{drawn_at, along, row_drawn}

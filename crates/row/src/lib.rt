@@ -1,5 +1,6 @@
 // The pixels of one row of a drawing, drawn one after the other.
 #![tactic(auto)]
+
 ghost use Rattle.std.specs.Prelude.{◌≡◌, bit_and, slice_index};
 ghost use Rattle.memory.specs.Bits.{bit_at};
 ghost use Rattle.pixel.specs.Pixel.{top_of};

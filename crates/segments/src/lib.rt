@@ -1,6 +1,7 @@
 // The four segments of the instruction cache: what makes them no state of a cache, and which one a
 // fetch matches. No public function has a requires.
 #![tactic(auto)]
+
 ghost use Rattle.std.specs.Prelude.{◌≡◌, cond, ltb};
 ghost use Rattle.lists.specs.Search.{any, first, any_pair};
 ghost use Rattle.segments.specs.Segments.{segment_count, holds_some, too_high, clash, matches};

@@ -1,6 +1,7 @@
 // The settings of a drawing: the scope's thirteen names, in its order. CONTROL, PSIZE and PMASK are
 // 16 bits wide.
 #![tactic(auto)]
+
 ghost use Rattle.std.specs.Prelude.{◌≡◌, ◌%◌, ◌^◌, get_or};
 ghost use Rattle.settings.specs.Settings.{settings_of};
 

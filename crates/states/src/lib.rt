@@ -1,5 +1,6 @@
 // The machine states of MOVE memory to register. No public function has a requires.
 #![tactic(auto)]
+
 ghost use Rattle.std.specs.Prelude.{◌≡◌, ◌≤◌};
 ghost use Rattle.states.specs.MoveStates.{cached_states, uncached_states, base_states};
 ghost use Rattle.states.specs.MoveStates.{mode_states, sign_states, move_states};

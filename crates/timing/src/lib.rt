@@ -1,6 +1,7 @@
 // What a field move costs: the case of its alignment and size, and the memory cycles of a read and
 // of a write. No public function has a requires.
 #![tactic(auto)]
+
 ghost use Rattle.std.specs.Prelude.{◌≡◌};
 ghost use Rattle.timing.specs.Cycles.{case_of, read_cycles, write_cycles, cycles_of};
 

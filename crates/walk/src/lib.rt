@@ -1,5 +1,6 @@
 // Walks: a start, and how far it is from row to row and from pixel to pixel, all modulo 2^32.
 #![tactic(auto)]
+
 ghost use Rattle.std.specs.Prelude.{◌≡◌, ◌*◌, ◌%◌, ◌^◌};
 ghost use Rattle.walk.specs.Walk.{address_at};
 

@@ -1,5 +1,6 @@
 // Windows: what is drawn of a rectangle.
 #![tactic(auto)]
+
 ghost use Rattle.std.specs.Prelude.{◌≡◌, ◌-◌, max, min};
 ghost use Rattle.address.specs.Coordinate.{negative};
 ghost use Rattle.windows.specs.Window.{window_of, bad_window, bad_windowing, shared, all_in};

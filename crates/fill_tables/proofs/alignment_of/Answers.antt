@@ -19,4 +19,3 @@ returns-then-trailing-2 c = grind (arith, common_steps)
 pub returns-else-trailing-2 : goal.returns-else-trailing-2
 unfolding alignment_of
 returns-else-trailing-2 c = grind (arith, common_steps)
-

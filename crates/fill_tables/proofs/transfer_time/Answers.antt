@@ -12,7 +12,7 @@ abbrev entry_of-2 : (c : goal.After-struct_known-2-1) → Entry
 entry_of-2 c =
     c.transfer_entry-e.result
 
-fits-2 : (c : goal.After-struct_known-2-1)  (l : ℕ) → l < 2 ^ 16
+fits-2 : (c : goal.After-struct_known-2-1) (l : ℕ) → l < 2 ^ 16
     → Room (entry_of-2 c).row c.words_of-n.result c.word_states-g.result l (entry_of-2 c).end
 fits-2 c l h =
     let f = c.args.f in
@@ -33,7 +33,7 @@ abbrev entry_of : (c : goal.After-struct_known-3-1) → Entry
 entry_of c =
     c.transfer_entry-e.result
 
-fits : (c : goal.After-struct_known-3-1)  (l : ℕ) → l < 2 ^ 16
+fits : (c : goal.After-struct_known-3-1) (l : ℕ) → l < 2 ^ 16
     → Room (entry_of c).row c.words_of-n.result c.word_states-g.result l (entry_of c).end
 fits c l h =
     let f = c.args.f in
@@ -59,8 +59,7 @@ overflow_add-result-2 c =
     record { fits = lt_trans (fits c _ (rows-lt c)).all (omega arith) }
 
 pub returns : goal.returns
-returns c =
-    (
-      rw (c.word_states-g.ensures, c.transfer_entry-e.ensures, c.alignment_of.ensures, c.words_of-n.ensures.0),
-      (fits c _ (rows-lt c)).all,
-    )
+returns c = (
+  rw (c.word_states-g.ensures, c.transfer_entry-e.ensures, c.alignment_of.ensures, c.words_of-n.ensures.0),
+  (fits c _ (rows-lt c)).all,
+)

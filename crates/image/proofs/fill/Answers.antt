@@ -1,7 +1,5 @@
 -- `image::fill` fills the memory with the image: of each draw of the lent generator four words.
-use Rattle.std.proofs.Common.{sym, ◌+◌, arith}
-use Rattle.generator.specs.Step.{stepped}
-use Rattle.image.specs.Words.{stored_words}
+use Rattle.std.proofs.Common.{arith}
 use Rattle.image.proofs.FillLaws.{start, turn, finish}
 use Rattle.image.proofs.fill.Goals as goal
 

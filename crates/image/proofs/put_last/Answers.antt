@@ -1,6 +1,5 @@
 -- `image::put_last` stores the words of a number up to the memory's end.
 use mathlib.Core.Path.{◌∙◌}
-use Prim.Native.Nat.{◌-◌}
 use lib.ListN.{length-set}
 use Rattle.image.proofs.FillLaws.{put_next, put-done}
 use Rattle.image.proofs.put_last.Goals as goal

@@ -1,5 +1,4 @@
 -- `memory::changed` meets its contract. Assumes nothing.
-use Rattle.memory.specs.Bits.{no_memory}
 use Rattle.memory.specs.Changed.{counted}
 use Rattle.memory.proofs.changed.Goals as goal
 

@@ -1,6 +1,6 @@
 -- `memory::changed_tail` meets its contract: the count so far is that of the words reached. Assumes nothing.
 use mathlib.Core.Path.{◌≡◌, sym, ap, ap₂, ◌∙◌}
-use Prim.Native.Nat.{◌+◌, ◌-◌, max}
+use Prim.Native.Nat.{◌+◌, max}
 use native.Mathlib.Numerals.{add-one}
 use native.Mathlib.Omega.{arith}
 use borrow.Author.Rules.{rules}

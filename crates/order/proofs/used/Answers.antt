@@ -12,22 +12,22 @@ use Rattle.segments.specs.Segments.{segment_count}
 use Rattle.order.specs.Order.{latest}
 use Rattle.order.proofs.used.Goals as goal
 
-by-four : (c : goal.Then-a-k)  (l : List ℕ)
+by-four : (c : goal.Then-a-k) (l : List ℕ)
     → l ≡ latest c.args.k (tabulate segment_count (λ i. get_or c.args.order i 0)) → l ≡ latest c.args.k c.args.order
 by-four c l e =
     e ∙ ap (latest c.args.k) (sym (tabulate-get_or segment_count 0 c.args.order (search rules)))
 
-by-four-2 : (c : goal.Then-b-k)  (l : List ℕ)
+by-four-2 : (c : goal.Then-b-k) (l : List ℕ)
     → l ≡ latest c.args.k (tabulate segment_count (λ i. get_or c.args.order i 0)) → l ≡ latest c.args.k c.args.order
 by-four-2 c l e =
     e ∙ ap (latest c.args.k) (sym (tabulate-get_or segment_count 0 c.args.order (search rules)))
 
-by-four-3 : (c : goal.Then-c-k)  (l : List ℕ)
+by-four-3 : (c : goal.Then-c-k) (l : List ℕ)
     → l ≡ latest c.args.k (tabulate segment_count (λ i. get_or c.args.order i 0)) → l ≡ latest c.args.k c.args.order
 by-four-3 c l e =
     e ∙ ap (latest c.args.k) (sym (tabulate-get_or segment_count 0 c.args.order (search rules)))
 
-by-four-4 : (c : goal.Else-c-k)  (l : List ℕ)
+by-four-4 : (c : goal.Else-c-k) (l : List ℕ)
     → l ≡ latest c.args.k (tabulate segment_count (λ i. get_or c.args.order i 0)) → l ≡ latest c.args.k c.args.order
 by-four-4 c l e =
     e ∙ ap (latest c.args.k) (sym (tabulate-get_or segment_count 0 c.args.order (search rules)))

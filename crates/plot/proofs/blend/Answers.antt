@@ -18,13 +18,13 @@ planes-le-3 c =
     (rw c.planes_at-planes.ensures (complement-pixel_of-le _ _ _), rw c.requires (top_of-le c.args.d.psize))
 
 -- a number cut to the enabled bits, or to all of the pixel's
-cut-le-3 : (c : goal.After-shifted)  (x : ℕ)
+cut-le-3 : (c : goal.After-shifted) (x : ℕ)
     → (bit_and x c.planes_at-planes.result ≤ c.planes_at-planes.result) × (bit_and x c.args.top ≤ c.args.top)
 cut-le-3 c x =
     (and_le_r x c.planes_at-planes.result, and_le_r x c.args.top)
 
 -- the definition's word, by the result that the code has and by what its tests say
-defined-3 : (c : goal.Then-result-eq0)  (b : Bool)
+defined-3 : (c : goal.Then-result-eq0) (b : Bool)
     → (let a = c.args in
     let planes : ℕ = c.planes_at-planes.result in
     let r : ℕ = bit_and c.process.result planes in
@@ -43,13 +43,13 @@ planes-le-2 c =
     (rw c.planes_at-planes.ensures (complement-pixel_of-le _ _ _), rw c.requires (top_of-le c.args.d.psize))
 
 -- a number cut to the enabled bits, or to all of the pixel's
-cut-le-2 : (c : goal.Else-result-eq0)  (x : ℕ)
+cut-le-2 : (c : goal.Else-result-eq0) (x : ℕ)
     → (bit_and x c.planes_at-planes.result ≤ c.planes_at-planes.result) × (bit_and x c.args.top ≤ c.args.top)
 cut-le-2 c x =
     (and_le_r x c.planes_at-planes.result, and_le_r x c.args.top)
 
 -- the definition's word, by the result that the code has and by what its tests say
-defined-2 : (c : goal.After-replace)  (b : Bool)
+defined-2 : (c : goal.After-replace) (b : Bool)
     → (let a = c.args in
     let planes : ℕ = c.planes_at-planes.result in
     let r : ℕ = bit_and c.process.result planes in
@@ -68,13 +68,13 @@ planes-le c =
     (rw c.planes_at-planes.ensures (complement-pixel_of-le _ _ _), rw c.requires (top_of-le c.args.d.psize))
 
 -- a number cut to the enabled bits, or to all of the pixel's
-cut-le : (c : goal.Else-d)  (x : ℕ)
+cut-le : (c : goal.Else-d) (x : ℕ)
     → (bit_and x c.planes_at-planes.result ≤ c.planes_at-planes.result) × (bit_and x c.args.top ≤ c.args.top)
 cut-le c x =
     (and_le_r x c.planes_at-planes.result, and_le_r x c.args.top)
 
 -- the definition's word, by the result that the code has and by what its tests say
-defined : (c : goal.After-replace-2)  (b : Bool)
+defined : (c : goal.After-replace-2) (b : Bool)
     → (let a = c.args in
     let planes : ℕ = c.planes_at-planes.result in
     let r : ℕ = bit_and c.process.result planes in

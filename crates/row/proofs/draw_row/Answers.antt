@@ -1,5 +1,5 @@
 -- `draw_row` meets its contract: after i turns of the loop i pixels are drawn.
-use Rattle.std.proofs.Common.{◌-◌, rules}
+use Rattle.std.proofs.Common.{rules}
 use Rattle.row.proofs.DrawnLaws.{none-drawn, next_drawn}
 use Rattle.row.proofs.draw_row.Goals as goal
 

@@ -1,0 +1,37 @@
+-- The loop of `read_lines`: what holds at the start, what a turn keeps, and what follows at the end. No contract cites this file.
+-- Assumes nothing.
+use mathlib.Core.Path.{◌≡◌, refl}
+use mathlib.Core.Bool.{true, false, true≢false}
+use mathlib.Core.List.{List}
+use Prim.Native.Nat.{ℕ, ◌+◌, ◌-◌, ◌<◌, ◌≤◌}
+use native.Mathlib.Omega.{arith}
+use lib.ListN.{length}
+use Rattle.plan.specs.declared.Cursor.{Cursor}
+use Rattle.plan.specs.declared.Reader.{Reader}
+use Rattle.plan.specs.declared.State.{State}
+use Rattle.plan.specs.Cursor.{PositionIn, NextLine}
+use Rattle.plan.specs.State.{nothing_read, LinesRead, PlanRead, LineRead}
+use Rattle.plan.proofs.CursorLaws.{next_place}
+use Rattle.plan.proofs.TurnLaws.{reads_none, reads-next}
+
+-- While another line is wanted, the lines before the reader's place are read; else all that decide
+pub record Reads (text : List ℕ) (at number : ℕ) (s : State) : Type 0 where
+  pub going : s.wanted ≡ true → PositionIn text at number × LinesRead text s at number
+  pub gone : s.wanted ≡ false → PlanRead text s
+
+pub reads-start : (text : List ℕ) → Reads text 0 1 nothing_read
+reads-start text =
+    record {
+      going = λ e. (record { within = omega arith; numbered = omega arith }, reads_none text);
+      gone = λ e. cc;
+    }
+
+pub reads-turn : {text : List ℕ} {n m : ℕ} {c : Cursor} {s : State} → NextLine text n m c → LineRead text c s
+    → Reads text (c.end + 1) (c.line + 1) s
+reads-turn x r =
+    record { going = λ e. (next_place x (r.more e).0, (r.more e).1); gone = r.done }
+
+-- the measure falls
+pub reads-less : {text : List ℕ} {n m : ℕ} {c : Cursor} → PositionIn text n m → NextLine text n m c
+    → length text + 1 - (c.end + 1) < length text + 1 - n
+reads-less p x = omega (arith, p.within, x.reached.onwards, x.reached.ends)
