@@ -1,5 +1,6 @@
 // The refusals of a FILL or PIXBLT call.
 #![tactic(auto)]
+
 ghost use Rattle.std.specs.Prelude.{◌≡◌};
 ghost use Rattle.array_refusal.specs.Refusal.{bad_pitch, bad_pitches, negative_start, bad_dest};
 ghost use Rattle.array_refusal.specs.Refusal.{bad_source, bad_start, leaves, refusal_of};

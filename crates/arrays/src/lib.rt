@@ -1,5 +1,6 @@
 // The arrays of a drawing after the window: what is drawn, and both walks.
 #![tactic(auto)]
+
 ghost use Rattle.std.specs.Prelude.{◌≡◌};
 ghost use Rattle.arrays.specs.Array.{rectangle_of, clipped_array, v_after, start_x, start_y};
 ghost use Rattle.arrays.specs.Array.{dest_start, step_of, linear_source, src_start};

@@ -1,5 +1,6 @@
 // FILL and PIXBLT: a call takes an operation, settings, a place, V and a budget over a lent memory.
 #![tactic(auto)]
+
 ghost use Rattle.std.specs.Prelude.{◌≡◌, false, cond, ◌&&◌, eqb, length, ◌+◌, ◌≤◌};
 ghost use Rattle.plot.specs.Drawing.{pixels};
 ghost use Rattle.engine.specs.Engine.{visits, visited_from};

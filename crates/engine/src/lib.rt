@@ -1,5 +1,6 @@
 // The pixel engine: a drawing's pixels visited one after the other, from a place, up to a budget.
 #![tactic(auto)]
+
 ghost use Rattle.std.specs.Prelude.{◌≡◌, ◌+◌, ◌-◌, ◌%◌, ◌^◌, ◌<◌, ◌≤◌, min};
 ghost use Rattle.walk.specs.Walk.{address_of};
 ghost use Rattle.plot.specs.Drawing.{pixels};

@@ -1,6 +1,7 @@
 // The time of FILL L and FILL XY, in machine states, for the clipped array. No public function has
 // a requires.
 #![tactic(auto)]
+
 ghost use Rattle.std.specs.Prelude.{◌≡◌, ◌*◌};
 ghost use Rattle.fill_timing.specs.FillTiming.{start_moved, end_moved, adjust_of, is_masked};
 ghost use Rattle.fill_timing.specs.FillTiming.{fill_of, fill_time, fill_states};

@@ -1,5 +1,6 @@
 // A lone pixel: its refusal, whether it is shown, and where it is.
 #![tactic(auto)]
+
 ghost use Rattle.std.specs.Prelude.{◌≡◌, ◌*◌, leb};
 ghost use Rattle.lone.specs.Lone.{bad_lone_start, pixel_address, rectangle_at, lone_clip, lone_v};
 ghost use Rattle.lone.specs.Lone.{lone_refusal, linear_pixel, xy_source, xy_destination};

@@ -1,5 +1,6 @@
 // The eight drawings: where they draw to and what they draw from.
 #![tactic(auto)]
+
 ghost use Rattle.std.specs.Prelude.{◌≡◌};
 ghost use Rattle.operation.specs.Operation.{operation_of, to_xy, from_xy, source_of};
 ghost use Rattle.operation.specs.Operation.{walks_to_corner, copies, copies_pixels};

@@ -1,5 +1,5 @@
 -- `visit_rows` meets its contract: after each turn of the loop one more row is visited.
-use Rattle.std.proofs.Common.{◌+◌, ◌-◌, ◌^◌, ◌<◌, arith}
+use Rattle.std.proofs.Common.{◌+◌, ◌^◌, ◌<◌, arith}
 use Rattle.plot.proofs.DrawingLaws.{pixels-lt}
 use Rattle.engine.proofs.RowsLaws.{no_rows, next-rows}
 use Rattle.engine.proofs.visit_rows.Goals as goal

@@ -1,0 +1,13 @@
+-- `running::copy` meets its contract. Assumes nothing.
+use mathlib.Core.Path.{refl, sym}
+use Rattle.running.proofs.CopyLaws.{turn, finish}
+use Rattle.running.proofs.copy.Goals as goal
+
+pub loop-i-init : goal.loop-i-init
+loop-i-init c = record { size = sym c.requires; words = refl }
+
+pub loop-i-preserved : goal.loop-i-preserved
+loop-i-preserved c = turn c.loop-i-test.true c.loop-i.invariant
+
+pub returns : goal.returns
+returns c = finish c.loop-i-test.false c.loop-i.invariant
