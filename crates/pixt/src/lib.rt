@@ -1,5 +1,6 @@
 // PIXT between a register and memory, linear and XY.
 #![tactic(auto)]
+
 ghost use Rattle.std.specs.Prelude.{◌≡◌, ◌*◌, ◌%◌, ◌^◌, length};
 ghost use Rattle.pixel.specs.Pixel.{top_of, pixel_of};
 ghost use Rattle.lone.specs.Lone.{linear_pixel, xy_source, xy_destination};
