@@ -9,7 +9,7 @@ use borrow.Author.Tests.{ne_eqb}
 use lib.Dec.{eqb}
 use lib.ListN.{length, get_or, take, drop, set}
 use lib.Seq.{set_out, take-nil}
-use Rattle.lists.specs.Search.{any, first}
+use Rattle.lists.specs.Search.{any}
 use Rattle.text.specs.Text.{up_to, same}
 use Rattle.line.specs.Words.{axis_word}
 use Rattle.points.specs.Axes.{axis_length, most_values}

@@ -1,5 +1,6 @@
 // The axis line, over the line's bytes: its refusal, its name, and its values.
 #![tactic(auto)]
+
 ghost use Rattle.std.specs.Prelude.{◌≡◌, false, ◌||◌, ◌+◌, ◌-◌, eqb, leb, length, get_or, take, drop};
 ghost use Rattle.lists.specs.Search.{any, any_pair};
 ghost use Rattle.text.specs.Text.{fields_of};

@@ -2,6 +2,7 @@
 // names, with that function's promise. A slice is passed as a pointer and a length. No function has
 // a requires: an output array that is too short, a mode or an operation that is none, or a number
 // that is too large for its place is answered by 9.
+#![tactic(auto)]
 mod drawings;
 mod fields;
 mod images;

@@ -1,5 +1,6 @@
 // The memory line, the draw line, and the name of an axis line, each over the line's bytes.
 #![tactic(auto)]
+
 ghost use Rattle.std.specs.Prelude.{◌≡◌};
 ghost use Rattle.text.specs.Text.{fields_of};
 ghost use Rattle.line.specs.Tests.{is_pair};

@@ -1,18 +1,17 @@
 -- The loop of `read_lines`: what holds at the start, what a turn keeps, and what follows at the end. No contract cites this file.
 -- Assumes nothing.
-use mathlib.Core.Path.{◌≡◌, refl}
-use mathlib.Core.Bool.{true, false, true≢false}
+use mathlib.Core.Path.{◌≡◌}
+use mathlib.Core.Bool.{true, false}
 use mathlib.Core.List.{List}
-use Prim.Native.Nat.{ℕ, ◌+◌, ◌-◌, ◌<◌, ◌≤◌}
+use Prim.Native.Nat.{ℕ, ◌+◌, ◌-◌, ◌<◌}
 use native.Mathlib.Omega.{arith}
 use lib.ListN.{length}
 use Rattle.plan.specs.declared.Cursor.{Cursor}
-use Rattle.plan.specs.declared.Reader.{Reader}
 use Rattle.plan.specs.declared.State.{State}
 use Rattle.plan.specs.Cursor.{PositionIn, NextLine}
 use Rattle.plan.specs.State.{nothing_read, LinesRead, PlanRead, LineRead}
 use Rattle.plan.proofs.CursorLaws.{next_place}
-use Rattle.plan.proofs.TurnLaws.{reads_none, reads-next}
+use Rattle.plan.proofs.TurnLaws.{reads_none}
 
 -- While another line is wanted, the lines before the reader's place are read; else all that decide
 pub record Reads (text : List ℕ) (at number : ℕ) (s : State) : Type 0 where

@@ -1,25 +1,23 @@
 -- A line is taken in: what follows from what each kind of line makes of the state. No contract cites this file. Assumes nothing.
 use mathlib.Core.Path.{◌≡◌, refl, sym, ap, ◌∙◌}
-use mathlib.Core.Bool.{Bool, true, false, true≢false, cond, ◌||◌}
+use mathlib.Core.Bool.{Bool, true, false, true≢false, ◌||◌}
 use mathlib.Core.List.{List, [], ◌∷◌, ◌++◌}
 use Prim.Native.Nat.{ℕ, ◌+◌, ◌^◌, ◌<◌, ◌≤◌}
 use native.Mathlib.Omega.{arith}
-use borrow.Author.Tests.{eqb-true, eqb-false, eq-eqb, ne_eqb, ltb-true, ltb-false}
+use borrow.Author.Tests.{eqb-true, eqb-false, ne_eqb, ltb-true, ltb-false}
 use lib.Dec.{eqb, ltb}
 use lib.ListN.{length, drop, length-drop}
 use Rattle.lists.proofs.TestLaws.{cond_both, or-eq-false}
 use Rattle.text.specs.Text.{fields_of}
-use Rattle.points.specs.Axes.{Axis, count}
 use Rattle.line.specs.Line.{memory_of, draw_of}
 use Rattle.axis.specs.Axis.{axis_of}
-use Rattle.plan.specs.declared.Plan.{Plan}
 use Rattle.plan.specs.declared.Cursor.{Cursor}
 use Rattle.plan.specs.declared.State.{State}
 use Rattle.text.proofs.TextLaws.{part-end-le}
 use Rattle.plan.specs.Reading.{Reading, accepted_reading, refused_at, text_limit}
-use Rattle.plan.specs.Table.{refused_plan, accepted_plan, summary}
+use Rattle.plan.specs.Table.{refused_plan}
 use Rattle.plan.specs.Cursor.{line_at, lines_from, reading_of, NextLine}
-use Rattle.plan.specs.State.{nothing_read, going, shut, after_memory, after_draw, after_end, after_axis, held_refusal}
+use Rattle.plan.specs.State.{nothing_read, shut, after_memory, after_draw, after_end, after_axis, held_refusal}
 use Rattle.plan.specs.State.{LinesRead, PlanRead, LineRead}
 use Rattle.plan.proofs.ReadingLaws.{memory-last, memory-bad, memory-next, draw-last, draw-bad, draw-next, axes-end, axes-last}
 use Rattle.plan.proofs.ReadingLaws.{axes-bad, axes-next}

@@ -1,5 +1,5 @@
 -- What is held of the lines read so far. The scope knows nothing of it. Assumes nothing.
-use Rattle.std.specs.Prelude.{◌≡◌, Bool, true, false, cond, ◌||◌, List, [], ◌∷◌, map, ℕ, ◌+◌, ◌*◌, ◌<◌, ◌≤◌, eqb, ltb, length, get_or, set, take, replicate}
+use Rattle.std.specs.Prelude.{◌≡◌, Bool, true, false, cond, ◌||◌, List, [], map, ℕ, ◌+◌, ◌*◌, ◌<◌, ◌≤◌, eqb, ltb, length, get_or, set, take, replicate}
 use Rattle.lists.specs.Search.{any}
 use Rattle.names.specs.Names.{name_count}
 use Rattle.names.specs.Drawings.{drawing_count}

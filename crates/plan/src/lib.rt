@@ -1,5 +1,6 @@
 // Plans: a text is read into a table of its axes. The first bad line decides.
 #![tactic(auto)]
+
 ghost use Rattle.std.specs.Prelude.{◌≡◌, ◌+◌, ◌<◌, ◌≤◌, ◌^◌, length};
 ghost use Rattle.text.specs.Text.{fields_of};
 ghost use Rattle.names.specs.Names.{name_count};

@@ -11,10 +11,10 @@ use lib.Seq.{get_or-set_same, get_or-set_other, ext_get_or}
 use Rattle.lists.specs.Search.{any, any_pair, first}
 use Rattle.lists.proofs.TestLaws.{or-eq-false, eqb_comm}
 use Rattle.lists.proofs.SearchLaws.{any-first, get_or-first}
-use Rattle.names.specs.Names.{defaults, limit}
+use Rattle.names.specs.Names.{defaults}
 use Rattle.points.specs.Axes.{Axis, axis_length, value_at, axis_values, count}
 use Rattle.points.specs.Points.{indices, assigned, experiment}
-use Rattle.points.specs.OneToOne.{is_named, unknown, Sound, chosen_from, Of, OneToOne, PointsOneToOne}
+use Rattle.points.specs.OneToOne.{is_named, unknown, Sound, chosen_from, Of, PointsOneToOne}
 use Rattle.points.proofs.AxesLaws.{length-axis_values, get_or-axis_values}
 use Rattle.points.proofs.PointsLaws.{InRange, number_of, indices-in_range, number_of-indices, number_of-lt, indices-number_of}
 use Rattle.points.proofs.SoundLaws.{first-sound, later-sound, sound-filled}

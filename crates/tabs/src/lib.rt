@@ -1,5 +1,6 @@
 // The fields of a line, parted by one tab: which and how many there are, and each as a number.
 #![tactic(auto)]
+
 ghost use Rattle.std.specs.Prelude.{◌≡◌, [], ◌+◌, ◌≤◌, length, get_or};
 ghost use Rattle.lists.specs.Search.{first};
 ghost use Rattle.ascii.specs.Ascii.{tab};

@@ -1,5 +1,6 @@
 // Text: the part up to a mark, decimal numbers, and whether two parts are the same bytes.
 #![tactic(auto)]
+
 ghost use Rattle.std.specs.Prelude.{◌≡◌, ◌+◌, length, drop};
 ghost use Rattle.text.specs.Text.{up_to, same};
 ghost use Rattle.text.specs.Part.{PartOf};

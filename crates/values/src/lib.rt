@@ -1,5 +1,6 @@
 // The values of a line from a place on: blocks of them, and searches among them.
 #![tactic(auto)]
+
 ghost use Rattle.std.specs.Prelude.{◌≡◌, map, eqb};
 ghost use Rattle.lists.specs.Search.{any, any_pair};
 ghost use Rattle.tabs.specs.Fields.{fields_from, field_value};

@@ -29,7 +29,7 @@ fields-5 c =
     fields_of c.args.line.now
 
 -- what is handed back with the lowest number that applies
-told-5 : (c : goal.After-axis_line)  {number : ℕ} {r : AxisLine}
+told-5 : (c : goal.After-axis_line) {number : ℕ} {r : AxisLine}
     → r ≡ (record { refusal = number; name = c.name_of-name.result; count = c.block_at-b.result.count })
     → number ≡ line_refusal (seen-5 c) (axes-5 c) (fields-5 c) → r ≡ axis_line (seen-5 c) (axes-5 c) (fields-5 c)
 told-5 c is lowest =
@@ -54,7 +54,7 @@ fields-4 c =
     fields_of c.args.line.now
 
 -- what is handed back with the lowest number that applies
-told-4 : (c : goal.After-axis_line-then-bad_name)  {number : ℕ} {r : AxisLine}
+told-4 : (c : goal.After-axis_line-then-bad_name) {number : ℕ} {r : AxisLine}
     → r ≡ (record { refusal = number; name = c.name_of-name.result; count = c.block_at-b.result.count })
     → number ≡ line_refusal (seen-4 c) (axes-4 c) (fields-4 c) → r ≡ axis_line (seen-4 c) (axes-4 c) (fields-4 c)
 told-4 c is lowest =
@@ -83,7 +83,7 @@ fields-3 c =
     fields_of c.args.line.now
 
 -- what is handed back with the lowest number that applies
-told-3 : (c : goal.After-axis_line-then-bad_values)  {number : ℕ} {r : AxisLine}
+told-3 : (c : goal.After-axis_line-then-bad_values) {number : ℕ} {r : AxisLine}
     → r ≡ (record { refusal = number; name = c.name_of-name.result; count = c.block_at-b.result.count })
     → number ≡ line_refusal (seen-3 c) (axes-3 c) (fields-3 c) → r ≡ axis_line (seen-3 c) (axes-3 c) (fields-3 c)
 told-3 c is lowest =
@@ -117,7 +117,7 @@ fields-2 c =
     fields_of c.args.line.now
 
 -- what is handed back with the lowest number that applies
-told-2 : (c : goal.After-axis_line-then-too_many)  {number : ℕ} {r : AxisLine}
+told-2 : (c : goal.After-axis_line-then-too_many) {number : ℕ} {r : AxisLine}
     → r ≡ (record { refusal = number; name = c.name_of-name.result; count = c.block_at-b.result.count })
     → number ≡ line_refusal (seen-2 c) (axes-2 c) (fields-2 c) → r ≡ axis_line (seen-2 c) (axes-2 c) (fields-2 c)
 told-2 c is lowest =
@@ -155,7 +155,7 @@ fields c =
     fields_of c.args.line.now
 
 -- what is handed back with the lowest number that applies
-told : (c : goal.After-axis_line-2)  {number : ℕ} {r : AxisLine}
+told : (c : goal.After-axis_line-2) {number : ℕ} {r : AxisLine}
     → r ≡ (record { refusal = number; name = c.name_of-name.result; count = c.block_at-b.result.count })
     → number ≡ line_refusal (seen c) (axes c) (fields c) → r ≡ axis_line (seen c) (axes c) (fields c)
 told c is lowest =

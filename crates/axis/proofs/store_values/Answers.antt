@@ -5,7 +5,6 @@ use native.Mathlib.Nat.{add-zero}
 use native.Mathlib.Omega.{arith}
 use lib.ListN.{length, length-set}
 use Rattle.text.proofs.TextLaws.{part-end-le}
-use Rattle.tabs.specs.Fields.{field_value}
 use Rattle.axis.specs.Axis.{values_of, stored_at}
 use Rattle.tabs.proofs.FieldsLaws.{fields_from-past, fields_from-third_at}
 use Rattle.axis.proofs.AxisLaws.{stored_at-past, stored_at-cons, fitting-past, fitting-cons}

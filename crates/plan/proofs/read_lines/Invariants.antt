@@ -1,5 +1,5 @@
 -- `read_lines` meets its contract: while another line is wanted, the lines before the reader's place are read. Assumes nothing.
-use Rattle.std.proofs.Common.{◌≡◌, true, false, ℕ, ◌+◌, ◌-◌, List, length}
+use Rattle.std.proofs.Common.{◌≡◌, ◌+◌, ◌-◌, length}
 use Rattle.plan.proofs.ReadLaws.{Reads}
 use Rattle.plan.proofs.read_lines.Given as goal
 

@@ -1,5 +1,4 @@
 -- `store_axes` meets its contract: at each turn the axes so far are in the table. Assumes nothing.
-use Prim.Native.Nat.{◌-◌}
 use Rattle.plan.proofs.StoreLaws.{none-stored, turn-room, turn-stored}
 use Rattle.plan.proofs.store_axes.Goals as goal
 

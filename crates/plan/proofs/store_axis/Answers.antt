@@ -45,4 +45,4 @@ returns-clause-entered c =
     let at = c.args.at in
     let entry = entry_of-listed (axis_of (fields c)) in
     rw (c.store_values-count.ensures.entered, c.name_of.ensures, counted c)
-          (stored_at-between t at _ _ _ ∙ ap (λ (e : List ℕ). stored_at at e t) (sym entry))
+    (stored_at-between t at _ _ _ ∙ ap (λ (e : List ℕ). stored_at at e t) (sym entry))

@@ -1,6 +1,5 @@
 -- `tabs::count` meets its contract. The invariant: the fields passed and the fields left are all the fields.
 use mathlib.Core.Path.{sym, ◌∙◌}
-use Prim.Native.Nat.{◌-◌}
 use native.Mathlib.Omega.{arith}
 use Rattle.text.proofs.TextLaws.{part-end-le}
 use Rattle.tabs.proofs.FieldsLaws.{fields_from-cons, fields_from-past}

@@ -1,6 +1,5 @@
 -- `text::digits` meets its contract. The invariant: the digits left follow the value so far.
 use mathlib.Core.Path.{sym, ◌∙◌}
-use Prim.Native.Nat.{◌-◌}
 use native.Mathlib.Omega.{arith}
 use lib.ListN.{get_or}
 use Rattle.text.proofs.DigitLaws.{pushed-lt, digits_of-next, digits_of-stop, digits_of-end}

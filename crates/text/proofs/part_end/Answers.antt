@@ -1,6 +1,5 @@
 -- `text::part_end` meets its contract. The invariant: the part that starts at `i` ends where the one at `from` does.
 use mathlib.Core.Path.{sym, ◌∙◌}
-use Prim.Native.Nat.{◌-◌}
 use Rattle.text.proofs.TextLaws.{up_to-here, up_to-next, up_to-end}
 use Rattle.text.proofs.part_end.Goals as goal
 

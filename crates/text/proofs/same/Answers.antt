@@ -1,6 +1,5 @@
 -- `text::same` meets its contract. The invariant: what is left decides.
 use mathlib.Core.Path.{sym, ◌∙◌}
-use Prim.Native.Nat.{◌-◌}
 use native.Mathlib.Omega.{arith}
 use borrow.Author.Rules.{rules}
 use Rattle.text.proofs.TextLaws.{same_length, same_next, same-differ, same_end}

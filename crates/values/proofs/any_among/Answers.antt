@@ -1,6 +1,5 @@
 -- `values::any_among` meets its contract. The invariant: the search among all the values comes out as that among the values left.
 use mathlib.Core.Path.{sym, ◌∙◌}
-use Prim.Native.Nat.{◌-◌}
 use Rattle.lists.specs.Search.{any}
 use Rattle.text.proofs.TextLaws.{part-end-le}
 use Rattle.tabs.proofs.FieldsLaws.{any_here, any_next, fields_from-past}

@@ -1,9 +1,7 @@
 -- `values::any_field` meets its contract. The invariant: the search among all the fields comes out as that among the fields left.
 use mathlib.Core.Path.{sym, ◌∙◌}
-use Prim.Native.Nat.{◌-◌}
 use Rattle.lists.specs.Search.{any}
 use Rattle.text.proofs.TextLaws.{part-end-le}
-use Rattle.values.specs.Tests.{passes}
 use Rattle.tabs.proofs.FieldsLaws.{any_here, any_next, fields_from-past}
 use Rattle.values.proofs.any_field.Goals as goal
 

@@ -1,6 +1,5 @@
 -- `values::any_same` meets its contract. The invariant: the search among all the numbers comes out as that among those left.
 use mathlib.Core.Path.{sym, ◌∙◌}
-use Prim.Native.Nat.{◌-◌}
 use native.Mathlib.Omega.{arith}
 use Rattle.values.proofs.BlockLaws.{any_pair-here, any_pair-next, any_pair-end}
 use Rattle.values.proofs.any_same.Goals as goal

@@ -1,7 +1,6 @@
 -- `values::any_twice` meets its contract. The invariant: the search among all the values comes out as that among the values left.
 use mathlib.Core.Path.{◌≡◌, sym, ◌∙◌}
 use mathlib.Core.Bool.{false}
-use Prim.Native.Nat.{◌-◌}
 use native.Mathlib.Omega.{arith}
 use lib.Dec.{eqb}
 use Rattle.lists.specs.Search.{any_pair}

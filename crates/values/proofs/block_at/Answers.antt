@@ -1,5 +1,5 @@
 -- `values::block_at` meets its contract. The invariant: the values read and those left are all the values.
-use Prim.Native.Nat.{◌-◌, ◌<◌, ◌≤◌}
+use Prim.Native.Nat.{◌<◌, ◌≤◌}
 use native.Mathlib.Omega.{arith}
 use lib.ListN.{length}
 use Rattle.values.specs.Block.{block_size}

@@ -1,6 +1,5 @@
 -- `values::is_among` meets its contract. The invariant: the number was found, or the search among those left comes out as that among all.
 use mathlib.Core.Path.{sym, ◌∙◌}
-use Prim.Native.Nat.{◌-◌}
 use native.Mathlib.Omega.{arith}
 use Rattle.values.proofs.BlockLaws.{any_held, any-held-end}
 use Rattle.values.proofs.is_among.Goals as goal
