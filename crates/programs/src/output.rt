@@ -1,5 +1,5 @@
 // What is written, in whole lines, and the statuses of a program.
-ghost use Rattle.std.specs.Prelude.{◌≤◌, length};
+ghost use Rattle.std.specs.Prelude.{◌<◌, ◌≤◌, length, IfOk};
 ghost use Rattle.io.specs.Counts.{IsPrefixLen};
 
 use crate::stream::Stream;
@@ -46,7 +46,9 @@ pub fn lines_to(rt: &HostRuntime, program: &[u8], name: &[u8], to: Stream<'_>, b
 }
 
 // Writes some of the bytes, one at least.
-fn written(rt: &HostRuntime, to: Stream<'_>, bytes: &[u8]) -> io::Result<usize> {
+fn written(rt: &HostRuntime, to: Stream<'_>, bytes: &[u8]) -> io::Result<usize>
+    ensures { IfOk result (λ n. (0 < n) × (n ≤ length bytes.now)) }
+{
     let n = stream::write(rt, to, bytes)?;
     if n == 0 {
         return Err(io::Error::from(io::ErrorKind::WriteZero));
