@@ -1,17 +1,18 @@
 // --help of sweep.
 use crate::output;
+use crate::output::Status;
 use crate::stream::Stream;
 
 // What help says.
-pub fn tell(rt: &HostRuntime) -> u8 {
+pub fn tell(rt: &HostRuntime) -> Status {
     let status = usage(rt);
-    if status != output::DONE {
+    if status != Status::Done {
         return status;
     }
     rest(rt)
 }
 
-fn usage(rt: &HostRuntime) -> u8 {
+fn usage(rt: &HostRuntime) -> Status {
     output::lines(
         rt,
         Stream::Standard,
@@ -19,7 +20,7 @@ fn usage(rt: &HostRuntime) -> u8 {
     )
 }
 
-fn rest(rt: &HostRuntime) -> u8 {
+fn rest(rt: &HostRuntime) -> Status {
     output::lines(
         rt,
         Stream::Standard,

@@ -3,6 +3,8 @@
 // `point` call them, each as a program of its own, so that a program is one process with a status.
 #![tactic(auto)]
 
+ghost use Rattle.std.specs.Prelude.{◌≤◌};
+
 mod arguments;
 mod descriptors;
 mod faces;
@@ -24,13 +26,17 @@ mod values;
 mod version;
 
 // sweep: see help.rt.
-pub fn sweep_main(rt: &HostRuntime) -> u8 {
+pub fn sweep_main(rt: &HostRuntime) -> u8
+    ensures { result ≤ 2 }
+{
     descriptors::guard(rt);
-    sweep::swept(rt)
+    sweep::swept(rt) as u8
 }
 
 // point PLAN N: one point in full.
-pub fn point_main(rt: &HostRuntime) -> u8 {
+pub fn point_main(rt: &HostRuntime) -> u8
+    ensures { result ≤ 2 }
+{
     descriptors::guard(rt);
-    point::told(rt)
+    point::told(rt) as u8
 }

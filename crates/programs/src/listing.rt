@@ -2,6 +2,7 @@
 ghost use Rattle.std.specs.Prelude.{◌≡◌, ◌+◌, ◌^◌, ◌<◌, ◌≤◌, min, length};
 ghost use Rattle.programs.specs.Batch.{most_points};
 
+use crate::output::Status;
 use crate::stream::Stream;
 use crate::{output, progress};
 use plan::Plan;
@@ -14,9 +15,9 @@ const BATCH: u64 = 1024;
 const LONG: u64 = 100000;
 
 // The heading, where the listing's start is asked for.
-pub fn heading(rt: &HostRuntime, to: Stream<'_>, first: u64) -> u8 {
+pub fn heading(rt: &HostRuntime, to: Stream<'_>, first: u64) -> Status {
     if first != 0 {
-        return output::DONE;
+        return Status::Done;
     }
     let mut space = [0u8; LINE];
     let end = first_line::put_heading(&mut space, 0);
@@ -24,9 +25,9 @@ pub fn heading(rt: &HostRuntime, to: Stream<'_>, first: u64) -> u8 {
 }
 
 // The line of a refused plan, where the listing's start is asked for.
-pub fn refused(rt: &HostRuntime, first: u64, p: Plan) -> u8 {
+pub fn refused(rt: &HostRuntime, first: u64, p: Plan) -> Status {
     if first != 0 {
-        return output::DONE;
+        return Status::Done;
     }
     let mut space = [0u8; LINE];
     let end = first_line::put_refused(&mut space, 0, p.answer as u64, p.line);
@@ -35,13 +36,13 @@ pub fn refused(rt: &HostRuntime, first: u64, p: Plan) -> u8 {
 
 // The heading, and the lines of `count` points from `first` on, or as many as there are. With count
 // 0 no point is asked for.
-pub fn list(rt: &HostRuntime, p: Plan, table: &[u64], first: u64, count: u64) -> u8 {
+pub fn list(rt: &HostRuntime, p: Plan, table: &[u64], first: u64, count: u64) -> Status {
     if (first >= p.points) & (count != 0) {
         return output::no_point(rt, first, p.points);
     }
     let to = Stream::Standard;
     let status = heading(rt, to, first);
-    if status != output::DONE {
+    if status != Status::Done {
         return status;
     }
     let mut image = [0u16; names::PLAN_WORDS];
@@ -80,7 +81,7 @@ pub fn run_all(
     before: u64,
     image: &mut [u16],
     memory: &mut [u16],
-) -> u8
+) -> Status
     requires { (first + count < 2 ^ 64) × (before ≤ count) }
 {
     let words = words_of(p, image, memory);
@@ -100,7 +101,7 @@ pub fn run_all(
             &mut image[0..words],
             &mut memory[0..words],
         );
-        if status != output::DONE {
+        if status != Status::Done {
             return status;
         }
         done += n;
@@ -110,7 +111,7 @@ pub fn run_all(
         shown = progress::tell(rt, shown, done, count);
     }
     progress::end(rt, shown, done, count);
-    output::DONE
+    Status::Done
 }
 
 // How many words of the two memories a plan's points are run over.
@@ -144,7 +145,7 @@ fn run_some(
     count: u64,
     image: &mut [u16],
     memory: &mut [u16],
-) -> u8
+) -> Status
     requires { count ≤ most_points }
 {
     let mut space = [0u8; LINE * BATCH as usize];

@@ -6,12 +6,13 @@ use crate::stream::Stream;
 use crate::{failure, stream};
 use std::io;
 
-// The statuses.
-pub const DONE: u8 = 0;
-
-pub const REFUSED: u8 = 1;
-
-pub const ERROR: u8 = 2;
+// How a program ends: all done, the plan refused, or an error, which is one line on standard error.
+#[derive(Clone, Copy, PartialEq, Eq)]
+pub enum Status {
+    Done = 0,
+    Refused = 1,
+    Error = 2,
+}
 
 // A number of the buffer's bytes: n, or all of them.
 pub fn within(n: usize, buffer: &[u8]) -> usize
@@ -21,7 +22,7 @@ pub fn within(n: usize, buffer: &[u8]) -> usize
 }
 
 // Writes whole lines of sweep's to standard output or to its FILE.
-pub fn lines(rt: &HostRuntime, to: Stream<'_>, bytes: &[u8]) -> u8 {
+pub fn lines(rt: &HostRuntime, to: Stream<'_>, bytes: &[u8]) -> Status {
     match to {
         Stream::Standard => lines_to(rt, b"sweep: ", b"standard output", to, bytes),
         Stream::File(_) => lines_to(rt, b"sweep: ", b"FILE", to, bytes),
@@ -30,7 +31,13 @@ pub fn lines(rt: &HostRuntime, to: Stream<'_>, bytes: &[u8]) -> u8 {
 
 // Writes whole lines; a line on standard error, which begins with the program and what is written
 // to, where that fails, and then no part of a line is left in a file.
-pub fn lines_to(rt: &HostRuntime, program: &[u8], name: &[u8], to: Stream<'_>, bytes: &[u8]) -> u8 {
+pub fn lines_to(
+    rt: &HostRuntime,
+    program: &[u8],
+    name: &[u8],
+    to: Stream<'_>,
+    bytes: &[u8],
+) -> Status {
     let mut at = 0;
     while at < bytes.len() {
         match written(rt, to, &bytes[at..]) {
@@ -38,11 +45,11 @@ pub fn lines_to(rt: &HostRuntime, program: &[u8], name: &[u8], to: Stream<'_>, b
             Err(e) => {
                 failure::tell(rt, program, name, e);
                 stream::cut(rt, to, unfinished(bytes, at));
-                return ERROR;
+                return Status::Error;
             }
         }
     }
-    DONE
+    Status::Done
 }
 
 // Writes some of the bytes, one at least.
@@ -71,7 +78,7 @@ fn unfinished(bytes: &[u8], end: usize) -> u64
 }
 
 // Writes the line that was put at the buffer's start, and ends there: at 0 where it did not fit.
-pub fn line(rt: &HostRuntime, to: Stream<'_>, end: usize, buffer: &[u8]) -> u8 {
+pub fn line(rt: &HostRuntime, to: Stream<'_>, end: usize, buffer: &[u8]) -> Status {
     if end == 0 {
         return not_listed(rt, 0, 9);
     }
@@ -80,15 +87,15 @@ pub fn line(rt: &HostRuntime, to: Stream<'_>, end: usize, buffer: &[u8]) -> u8 {
 }
 
 // A first point that the plan does not have.
-pub fn no_point(rt: &HostRuntime, first: u64, count: u64) -> u8 {
+pub fn no_point(rt: &HostRuntime, first: u64, count: u64) -> Status {
     let _ = eprintln!(rt;
         "sweep: refused, 24: point {first} isn't below the plan's count, {count}"
     );
-    ERROR
+    Status::Error
 }
 
 // Lines that a call of the proved libraries did not put.
-pub fn not_listed(rt: &HostRuntime, first: u64, answer: u64) -> u8 {
+pub fn not_listed(rt: &HostRuntime, first: u64, answer: u64) -> Status {
     let _ = eprintln!(rt; "sweep: refused, {answer}: the lines from point {first} on");
-    ERROR
+    Status::Error
 }

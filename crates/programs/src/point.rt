@@ -1,5 +1,6 @@
 // point PLAN N: one point in full, for a reader: its values in decimal and hexadecimal and taken
 // apart, the answer in words, what the drawing leaves, and what the window leaves of the array.
+use crate::output::Status;
 use crate::stream::Stream;
 use crate::{arguments, faces, input, listing, output, reason, stream, sweep, version};
 use drawing::Outcome;
@@ -12,7 +13,7 @@ use text::Number;
 const SPACE: usize = 8192;
 
 // Reads the arguments and the plan, and tells of the point.
-pub fn told(rt: &HostRuntime) -> u8 {
+pub fn told(rt: &HostRuntime) -> Status {
     if arguments::is(rt, 1, b"--help") | arguments::is(rt, 1, b"-h") {
         return write(
             rt,
@@ -34,21 +35,21 @@ pub fn told(rt: &HostRuntime) -> u8 {
     over_plan(rt, point)
 }
 
-fn error(rt: &HostRuntime, line: &[u8]) -> u8 {
+fn error(rt: &HostRuntime, line: &[u8]) -> Status {
     stream::complain(rt, line);
-    output::ERROR
+    Status::Error
 }
 
-fn write(rt: &HostRuntime, bytes: &[u8]) -> u8 {
+fn write(rt: &HostRuntime, bytes: &[u8]) -> Status {
     output::lines_to(rt, b"point: ", b"standard output", Stream::Standard, bytes)
 }
 
 // Reads the plan.
-fn over_plan(rt: &HostRuntime, point: u64) -> u8 {
+fn over_plan(rt: &HostRuntime, point: u64) -> Status {
     let mut space = [0u8; sweep::SPACE];
     let got = input::plan_text(rt, b"point: ", 1, &mut space);
     if !got.good {
-        return output::ERROR;
+        return Status::Error;
     }
     let n = output::within(got.length, &space);
     let text = &space[..n];
@@ -56,7 +57,7 @@ fn over_plan(rt: &HostRuntime, point: u64) -> u8 {
     let p = plan::read(text, &mut table);
     if p.answer != 0 {
         reason::tell(rt, 1, text, p);
-        return output::REFUSED;
+        return Status::Refused;
     }
     if point < p.points {
         return tell(rt, p, &table, point);
@@ -65,15 +66,15 @@ fn over_plan(rt: &HostRuntime, point: u64) -> u8 {
 }
 
 // A point that the plan does not have.
-fn no_point(rt: &HostRuntime, point: u64, count: u64) -> u8 {
+fn no_point(rt: &HostRuntime, point: u64, count: u64) -> Status {
     let _ = eprintln!(rt;
         "point: refused, 24: point {point} isn't below the plan's count, {count}"
     );
-    output::ERROR
+    Status::Error
 }
 
 // Runs the point, and writes all that is told of it.
-fn tell(rt: &HostRuntime, p: Plan, table: &[u64], point: u64) -> u8 {
+fn tell(rt: &HostRuntime, p: Plan, table: &[u64], point: u64) -> Status {
     let mut v = [0u64; names::COUNT];
     decoding::experiment(table, p.axes, point, &mut v);
     let s = settings::settings_of(&v);

@@ -4,6 +4,7 @@
 ghost use Rattle.std.specs.Prelude.{◌≡◌, ◌+◌, ◌^◌, ◌<◌, ◌≤◌, length};
 
 use crate::arguments::FILE;
+use crate::output::Status;
 use crate::reader::{Piece, Reader};
 use crate::stream::Stream;
 use crate::{arguments, failure, input, listing, output, progress, reader, shown, stream};
@@ -43,7 +44,7 @@ struct Held {
 }
 
 // Goes on with FILE, which is made where it is missing.
-pub fn go_on(rt: &HostRuntime, p: Plan, table: &[u64], first: u64, count: u64) -> u8 {
+pub fn go_on(rt: &HostRuntime, p: Plan, table: &[u64], first: u64, count: u64) -> Status {
     if (first >= p.points) & (count != 0) {
         return output::no_point(rt, first, p.points);
     }
@@ -62,9 +63,9 @@ pub fn go_on(rt: &HostRuntime, p: Plan, table: &[u64], first: u64, count: u64) -
 }
 
 // A file that could not be gone on with.
-fn failed(rt: &HostRuntime, path: &[u8], e: io::Error) -> u8 {
+fn failed(rt: &HostRuntime, path: &[u8], e: io::Error) -> Status {
     failure::tell(rt, b"sweep: ", path, e);
-    output::ERROR
+    Status::Error
 }
 
 // The file, open for reading and writing, and at its start.
@@ -104,7 +105,7 @@ fn opened_for_both(rt: &HostRuntime, path: &str) -> io::Result<File> {
 }
 
 // Goes on with an open file.
-fn go_on_with(rt: &HostRuntime, file: &File, path: &[u8], part: Part, table: &[u64]) -> u8
+fn go_on_with(rt: &HostRuntime, file: &File, path: &[u8], part: Part, table: &[u64]) -> Status
     requires { part.first + part.count < 2 ^ 64 }
 {
     let mut image = [0u16; names::PLAN_WORDS];
@@ -121,12 +122,12 @@ fn go_on_in(
     table: &[u64],
     image: &mut [u16],
     memory: &mut [u16],
-) -> u8
+) -> Status
     requires { part.first + part.count < 2 ^ 64 }
 {
     let held = held_in(rt, file, path, part, table, image, memory);
     if !held.good {
-        return output::ERROR;
+        return Status::Error;
     }
     if let Err(e) = at_end(file, held.bytes, held.torn) {
         return failed(rt, path, e);
@@ -134,7 +135,7 @@ fn go_on_in(
     let to = Stream::File(file);
     if held.bytes == 0 {
         let status = listing::heading(rt, to, part.first);
-        if status != output::DONE {
+        if status != Status::Done {
             return status;
         }
     }

@@ -1,5 +1,6 @@
 // --at: the lines of the points whose numbers stand on standard input, one on a line.
 use crate::arguments::Form;
+use crate::output::Status;
 use crate::reader::Piece;
 use crate::stream::Stream;
 use crate::{failure, listing, output, reader, shown, stream, values};
@@ -10,9 +11,9 @@ use text::Number;
 const INPUT: usize = 65536;
 
 // The heading, and a line for each number.
-pub fn list(rt: &HostRuntime, form: Form, p: Plan, table: &[u64]) -> u8 {
+pub fn list(rt: &HostRuntime, form: Form, p: Plan, table: &[u64]) -> Status {
     let status = values::heading(rt, form, 0);
-    if status != output::DONE {
+    if status != Status::Done {
         return status;
     }
     let mut image = [0u16; names::PLAN_WORDS];
@@ -28,7 +29,7 @@ fn list_all(
     table: &[u64],
     image: &mut [u16],
     memory: &mut [u16],
-) -> u8 {
+) -> Status {
     let mut space = [0u8; INPUT];
     let mut r = reader::start();
     let mut line: u64 = 0;
@@ -39,21 +40,21 @@ fn list_all(
         let from = found.from;
         let to = found.to;
         match kind {
-            Piece::Nothing => return output::DONE,
+            Piece::Nothing => return Status::Done,
             Piece::Failed(e) => {
                 failure::tell(rt, b"sweep: ", b"standard input", e);
-                return output::ERROR;
+                return Status::Error;
             }
             _ => {
                 let status = list_one(rt, form, p, table, line, &space[from..to], image, memory);
-                if status != output::DONE {
+                if status != Status::Done {
                     return status;
                 }
             }
         }
         r = found.reader;
     }
-    output::DONE
+    Status::Done
 }
 
 // The line of the point that a line of input names.
@@ -66,7 +67,7 @@ fn list_one(
     word: &[u8],
     image: &mut [u16],
     memory: &mut [u16],
-) -> u8 {
+) -> Status {
     match text::parse(word) {
         Number::Value(point) => {
             if point < p.points {
@@ -79,7 +80,7 @@ fn list_one(
 }
 
 // A line of input that names no point of the plan.
-fn no_point(rt: &HostRuntime, line: u64, word: &[u8]) -> u8 {
+fn no_point(rt: &HostRuntime, line: u64, word: &[u8]) -> Status {
     let mut out = [0u8; shown::LINE];
     let start = put_bytes::bytes(&mut out, 0, b"sweep: line ");
     let numbered = put_bytes::number(&mut out, start, line, b' ');
@@ -88,7 +89,7 @@ fn no_point(rt: &HostRuntime, line: u64, word: &[u8]) -> u8 {
     let end = put_bytes::bytes(&mut out, at, b"\n");
     let n = output::within(end, &out);
     stream::complain(rt, &out[..n]);
-    output::ERROR
+    Status::Error
 }
 
 // Writes the line of a point.
@@ -100,7 +101,7 @@ fn write(
     point: u64,
     image: &mut [u16],
     memory: &mut [u16],
-) -> u8 {
+) -> Status {
     match form {
         Form::Results => {
             let mut space = [0u8; run::LINE];

@@ -1,5 +1,6 @@
 // sweep: a plan read and run, by the proved libraries.
 use crate::arguments::{Asked, Form, Task};
+use crate::output::Status;
 use crate::stream::Stream;
 use crate::{arguments, help, input, listing, output, reason, resume, sample, values, version};
 use plan::{Plan, ROOM, TEXT};
@@ -8,11 +9,11 @@ use plan::{Plan, ROOM, TEXT};
 pub const SPACE: usize = TEXT + 1;
 
 // Reads the arguments, and does what they ask for.
-pub fn swept(rt: &HostRuntime) -> u8 {
+pub fn swept(rt: &HostRuntime) -> Status {
     let asked = arguments::read(rt);
     let task = asked.task;
     match task {
-        Task::Bad => output::ERROR,
+        Task::Bad => Status::Error,
         Task::Help => help::tell(rt),
         Task::Version => version::tell(rt, b"sweep: "),
         _ => over_plan(rt, asked),
@@ -20,11 +21,11 @@ pub fn swept(rt: &HostRuntime) -> u8 {
 }
 
 // Reads the plan.
-fn over_plan(rt: &HostRuntime, asked: Asked) -> u8 {
+fn over_plan(rt: &HostRuntime, asked: Asked) -> Status {
     let mut space = [0u8; SPACE];
     let got = input::plan_text(rt, b"sweep: ", asked.plan, &mut space);
     if !got.good {
-        return output::ERROR;
+        return Status::Error;
     }
     let n = output::within(got.length, &space);
     let text = &space[..n];
@@ -37,21 +38,21 @@ fn over_plan(rt: &HostRuntime, asked: Asked) -> u8 {
 }
 
 // A refused plan: why, and its line in the listing's place where its start is asked for.
-fn refused(rt: &HostRuntime, asked: Asked, text: &[u8], p: Plan) -> u8 {
+fn refused(rt: &HostRuntime, asked: Asked, text: &[u8], p: Plan) -> Status {
     reason::tell(rt, asked.plan, text, p);
     let task = asked.task;
     let status = match task {
-        Task::Points | Task::Resume => output::DONE,
+        Task::Points | Task::Resume => Status::Done,
         _ => listing::refused(rt, asked.first, p),
     };
-    if status != output::DONE {
+    if status != Status::Done {
         return status;
     }
-    output::REFUSED
+    Status::Refused
 }
 
 // What is asked for of an accepted plan.
-fn done(rt: &HostRuntime, asked: Asked, p: Plan, table: &[u64]) -> u8 {
+fn done(rt: &HostRuntime, asked: Asked, p: Plan, table: &[u64]) -> Status {
     let task = asked.task;
     match task {
         Task::Points => points(rt, p.points),
@@ -62,13 +63,13 @@ fn done(rt: &HostRuntime, asked: Asked, p: Plan, table: &[u64]) -> u8 {
 }
 
 // The points that standard input names.
-fn sampled(rt: &HostRuntime, asked: Asked, p: Plan, table: &[u64]) -> u8 {
+fn sampled(rt: &HostRuntime, asked: Asked, p: Plan, table: &[u64]) -> Status {
     let form = asked.form;
     sample::list(rt, form, p, table)
 }
 
 // The listing, or the values of its points.
-fn listed(rt: &HostRuntime, asked: Asked, p: Plan, table: &[u64]) -> u8 {
+fn listed(rt: &HostRuntime, asked: Asked, p: Plan, table: &[u64]) -> Status {
     let form = asked.form;
     match form {
         Form::Results => listing::list(rt, p, table, asked.first, asked.count),
@@ -77,7 +78,7 @@ fn listed(rt: &HostRuntime, asked: Asked, p: Plan, table: &[u64]) -> u8 {
 }
 
 // The count of points.
-fn points(rt: &HostRuntime, count: u64) -> u8 {
+fn points(rt: &HostRuntime, count: u64) -> Status {
     let mut space = [0u8; put_lines::NUMBER];
     let end = put_bytes::number(&mut space, 0, count, ascii::LINE_END);
     output::line(rt, Stream::Standard, end, &space)

@@ -3,6 +3,7 @@
 ghost use Rattle.std.specs.Prelude.{◌+◌, ◌^◌, ◌<◌};
 
 use crate::arguments::Form;
+use crate::output::Status;
 use crate::stream::Stream;
 use crate::{listing, output};
 use plan::Plan;
@@ -15,9 +16,9 @@ const BATCH: u64 = 128;
 pub const LINE: usize = (names::COUNT + 1) * NUMBER;
 
 // The heading, where the start is asked for.
-pub fn heading(rt: &HostRuntime, form: Form, first: u64) -> u8 {
+pub fn heading(rt: &HostRuntime, form: Form, first: u64) -> Status {
     if first != 0 {
-        return output::DONE;
+        return Status::Done;
     }
     let mut space = [0u8; LINE];
     let end = put_heading(form, &mut space);
@@ -34,12 +35,19 @@ fn put_heading(form: Form, out: &mut [u8]) -> usize {
 
 // The heading, and the lines of `count` points from `first` on, or as many as there are. With count
 // 0 no point is asked for.
-pub fn list(rt: &HostRuntime, form: Form, p: Plan, table: &[u64], first: u64, count: u64) -> u8 {
+pub fn list(
+    rt: &HostRuntime,
+    form: Form,
+    p: Plan,
+    table: &[u64],
+    first: u64,
+    count: u64,
+) -> Status {
     if (first >= p.points) & (count != 0) {
         return output::no_point(rt, first, p.points);
     }
     let status = heading(rt, form, first);
-    if status != output::DONE {
+    if status != Status::Done {
         return status;
     }
     write_all(
@@ -53,23 +61,37 @@ pub fn list(rt: &HostRuntime, form: Form, p: Plan, table: &[u64], first: u64, co
 }
 
 // The lines of `count` points from `first` on, some at a time.
-fn write_all(rt: &HostRuntime, form: Form, axes: u64, table: &[u64], first: u64, count: u64) -> u8
+fn write_all(
+    rt: &HostRuntime,
+    form: Form,
+    axes: u64,
+    table: &[u64],
+    first: u64,
+    count: u64,
+) -> Status
     requires { first + count < 2 ^ 64 }
 {
     let mut done: u64 = 0;
     while done < count {
         let n = listing::least(BATCH, count - done);
         let status = write_some(rt, form, axes, table, first + done, n);
-        if status != output::DONE {
+        if status != Status::Done {
             return status;
         }
         done += n;
     }
-    output::DONE
+    Status::Done
 }
 
 // The lines of at most BATCH points.
-fn write_some(rt: &HostRuntime, form: Form, axes: u64, table: &[u64], first: u64, count: u64) -> u8
+fn write_some(
+    rt: &HostRuntime,
+    form: Form,
+    axes: u64,
+    table: &[u64],
+    first: u64,
+    count: u64,
+) -> Status
     requires { first + count < 2 ^ 64 }
 {
     let mut space = [0u8; LINE * BATCH as usize];

@@ -2,6 +2,7 @@
 ghost use Rattle.std.specs.Prelude.{◌≤◌, length};
 ghost use Rattle.io.specs.Counts.{IsPrefixLen};
 
+use crate::output::Status;
 use crate::shown::PATH;
 use crate::stream::Stream;
 use crate::{failure, input, output, stream};
@@ -10,18 +11,18 @@ use std::fs::File;
 
 // Writes the file to standard output; a line on standard error, which begins with the program's
 // name, where it is not there.
-pub fn tell(rt: &HostRuntime, program: &[u8]) -> u8 {
+pub fn tell(rt: &HostRuntime, program: &[u8]) -> Status {
     match env::current_exe(rt) {
         Ok(place) => tell_beside(rt, program, place.as_str().as_bytes()),
         Err(e) => {
             failure::tell(rt, program, b"/proc/self/exe", e);
-            output::ERROR
+            Status::Error
         }
     }
 }
 
 // The same, of the program at this place.
-fn tell_beside(rt: &HostRuntime, program: &[u8], place: &[u8]) -> u8 {
+fn tell_beside(rt: &HostRuntime, program: &[u8], place: &[u8]) -> Status {
     let folder = folder_end(place);
     let mut path = [0u8; 2 * PATH];
     let start = put_bytes::bytes(&mut path, 0, &place[..folder]);
@@ -47,18 +48,18 @@ fn folder_end(path: &[u8]) -> usize
 }
 
 // Writes a small file to standard output.
-fn copied(rt: &HostRuntime, program: &[u8], path: &[u8]) -> u8 {
+fn copied(rt: &HostRuntime, program: &[u8], path: &[u8]) -> Status {
     match input::opened(rt, path) {
         Ok(file) => told(rt, program, &file),
         Err(e) => {
             failure::tell(rt, program, path, e);
-            output::ERROR
+            Status::Error
         }
     }
 }
 
 // Writes its lines.
-fn told(rt: &HostRuntime, program: &[u8], file: &File) -> u8 {
+fn told(rt: &HostRuntime, program: &[u8], file: &File) -> Status {
     let mut space = [0u8; PATH];
     let n = read_full(rt, file, &mut space);
     output::lines_to(
