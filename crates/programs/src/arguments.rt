@@ -173,8 +173,8 @@ fn unknown(rt: &HostRuntime, i: usize) -> Asked {
     bad(rt, &line[..n])
 }
 
-// Puts the argument at the buffer's start, and gives its length: 0 where there is none, and where it
-// is longer than the buffer.
+// Puts the argument at the buffer's start, and gives its length: 0 where there is none, and where
+// it is longer than the buffer.
 pub fn fill(rt: &HostRuntime, i: usize, buffer: &mut [u8]) -> usize
     ensures { result ≤ length buffer.new }
 {
