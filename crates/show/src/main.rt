@@ -20,9 +20,9 @@ fn number(rt: &impl Print, n: u64) {
     let _ = rt.print(n);
 }
 
-// In eight hexadecimal digits.
-fn hex(rt: &impl Print, n: u32) {
-    let _ = print!(rt; "{n:08x}");
+// In so many hexadecimal digits, or more.
+fn hex(rt: &impl Print, n: u64, width: usize) {
+    let _ = print!(rt; "{n:0width$x}");
 }
 
 // Size 8 at address 12 over two words: read, its costs, and the words after a write.
@@ -32,10 +32,10 @@ fn show_field(rt: &impl Print) {
     text(rt, "field of 8 bits at address 12 over f000 000a\n");
     let plain = field::read(memory, 12, 8, false);
     text(rt, "  read\t");
-    hex(rt, plain.value);
+    hex(rt, plain.value as u64, 8);
     let signed = field::read(memory, 12, 8, true);
     text(rt, "\n  signed\t");
-    hex(rt, signed.value);
+    hex(rt, signed.value as u64, 8);
     let cycles = timing::field_cycles(12, 8);
     text(rt, "\n  memory cycles of a read, of a write\t");
     number(rt, cycles.read as u64);
@@ -63,9 +63,9 @@ fn show_image(rt: &impl Print) {
     let high = field::read(memory, 32, 32, false);
     let counted = memory::changed(&zeros, memory);
     text(rt, "image of seed 1 over 4 words\n  words 1 and 0\t");
-    hex(rt, low.value);
+    hex(rt, low.value as u64, 8);
     text(rt, "\n  words 3 and 2\t");
-    hex(rt, high.value);
+    hex(rt, high.value as u64, 8);
     text(rt, "\n  bits that are 1\t");
     number(rt, counted.bits);
     text(rt, "\n");
