@@ -2,6 +2,8 @@
 ghost use Rattle.std.specs.Prelude.{◌≡◌, ◌+◌, ◌^◌, ◌<◌, ◌≤◌, min, length};
 ghost use Rattle.programs.specs.Batch.{most_points};
 
+use crate::output::Status;
+use crate::stream::Stream;
 use crate::{output, progress};
 use plan::Plan;
 use run::LINE;
@@ -13,40 +15,41 @@ const BATCH: u64 = 1024;
 const LONG: u64 = 100000;
 
 // The heading, where the listing's start is asked for.
-pub fn heading(fd: i32, first: u64) -> i32 {
+pub fn heading(rt: &HostRuntime, to: Stream<'_>, first: u64) -> Status {
     if first != 0 {
-        return output::DONE;
+        return Status::Done;
     }
     let mut space = [0u8; LINE];
     let end = first_line::put_heading(&mut space, 0);
-    output::line(fd, end, &space)
+    output::line(rt, to, end, &space)
 }
 
 // The line of a refused plan, where the listing's start is asked for.
-pub fn refused(first: u64, p: Plan) -> i32 {
+pub fn refused(rt: &HostRuntime, first: u64, p: Plan) -> Status {
     if first != 0 {
-        return output::DONE;
+        return Status::Done;
     }
     let mut space = [0u8; LINE];
     let end = first_line::put_refused(&mut space, 0, p.answer as u64, p.line);
-    output::line(libc::STDOUT_FILENO, end, &space)
+    output::line(rt, Stream::Standard, end, &space)
 }
 
 // The heading, and the lines of `count` points from `first` on, or as many as there are. With count
 // 0 no point is asked for.
-pub fn list(p: Plan, table: &[u64], first: u64, count: u64) -> i32 {
+pub fn list(rt: &HostRuntime, p: Plan, table: &[u64], first: u64, count: u64) -> Status {
     if (first >= p.points) & (count != 0) {
-        return output::no_point(first, p.points);
+        return output::no_point(rt, first, p.points);
     }
-    let fd = libc::STDOUT_FILENO;
-    let status = heading(fd, first);
-    if status != output::DONE {
+    let to = Stream::Standard;
+    let status = heading(rt, to, first);
+    if status != Status::Done {
         return status;
     }
     let mut image = [0u16; names::PLAN_WORDS];
     let mut memory = [0u16; names::PLAN_WORDS];
     run_all(
-        fd,
+        rt,
+        to,
         p,
         table,
         first,
@@ -69,7 +72,8 @@ pub fn asked_of(p: Plan, first: u64, count: u64) -> u64
 
 // The lines of `count` points from `first` on, the first `before` of them left out.
 pub fn run_all(
-    fd: i32,
+    rt: &HostRuntime,
+    to: Stream<'_>,
     p: Plan,
     table: &[u64],
     first: u64,
@@ -77,18 +81,19 @@ pub fn run_all(
     before: u64,
     image: &mut [u16],
     memory: &mut [u16],
-) -> i32
+) -> Status
     requires { (first + count < 2 ^ 64) × (before ≤ count) }
 {
     let words = words_of(p, image, memory);
-    let mut shown = progress::start(fd, before);
-    let mut begun = progress::spent();
+    let mut shown = progress::start(rt, to, before);
+    let mut begun = progress::spent(rt);
     let mut batch: u64 = 1;
     let mut done = before;
     while done < count {
         let n = least(batch, count - done);
         let status = run_some(
-            fd,
+            rt,
+            to,
             p,
             table,
             first + done,
@@ -96,17 +101,17 @@ pub fn run_all(
             &mut image[0..words],
             &mut memory[0..words],
         );
-        if status != output::DONE {
+        if status != Status::Done {
             return status;
         }
         done += n;
-        let ended = progress::spent();
+        let ended = progress::spent(rt);
         batch = next_batch(batch, progress::took(begun, ended));
         begun = ended;
-        shown = progress::tell(shown, done, count);
+        shown = progress::tell(rt, shown, done, count);
     }
-    progress::end(shown, done, count);
-    output::DONE
+    progress::end(rt, shown, done, count);
+    Status::Done
 }
 
 // How many words of the two memories a plan's points are run over.
@@ -132,14 +137,15 @@ fn next_batch(batch: u64, took: u64) -> u64
 
 // The lines of at most BATCH points.
 fn run_some(
-    fd: i32,
+    rt: &HostRuntime,
+    to: Stream<'_>,
     p: Plan,
     table: &[u64],
     first: u64,
     count: u64,
     image: &mut [u16],
     memory: &mut [u16],
-) -> i32
+) -> Status
     requires { count ≤ most_points }
 {
     let mut space = [0u8; LINE * BATCH as usize];
@@ -147,10 +153,10 @@ fn run_some(
         table, p.axes, p.draw, first, count, image, memory, &mut space,
     );
     if r.answer != 0 {
-        return output::not_listed(first, r.answer as u64);
+        return output::not_listed(rt, first, r.answer as u64);
     }
     let n = output::within(r.length, &space);
-    output::lines(fd, &space[..n])
+    output::lines(rt, to, &space[..n])
 }
 
 // Puts the line of a point, which is run, and gives its length: 0 where there is none.

@@ -1,16 +1,18 @@
 // What is written, in whole lines, and the statuses of a program.
-ghost use Rattle.std.specs.Prelude.{◌≤◌, length};
+ghost use Rattle.std.specs.Prelude.{◌<◌, ◌≤◌, length, IfOk};
 ghost use Rattle.io.specs.Counts.{IsPrefixLen};
 
-use crate::signed;
-use libc::{STDERR_FILENO, STDOUT_FILENO};
+use crate::stream::Stream;
+use crate::{failure, stream};
+use std::io;
 
-// The statuses.
-pub const DONE: i32 = 0;
-
-pub const REFUSED: i32 = 1;
-
-pub const ERROR: i32 = 2;
+// How a program ends: all done, the plan refused, or an error, which is one line on standard error.
+#[derive(Clone, Copy, PartialEq, Eq)]
+pub enum Status {
+    Done = 0,
+    Refused = 1,
+    Error = 2,
+}
 
 // A number of the buffer's bytes: n, or all of them.
 pub fn within(n: usize, buffer: &[u8]) -> usize
@@ -19,29 +21,46 @@ pub fn within(n: usize, buffer: &[u8]) -> usize
     if n < buffer.len() { n } else { buffer.len() }
 }
 
-// Writes whole lines of sweep's to a descriptor.
-pub fn lines(fd: i32, bytes: &[u8]) -> i32 {
-    if fd == STDOUT_FILENO {
-        return lines_to(b"sweep: standard output", fd, bytes);
+// Writes whole lines of sweep's to standard output or to its FILE.
+pub fn lines(rt: &HostRuntime, to: Stream<'_>, bytes: &[u8]) -> Status {
+    match to {
+        Stream::Standard => lines_to(rt, b"sweep: ", b"standard output", to, bytes),
+        Stream::File(_) => lines_to(rt, b"sweep: ", b"FILE", to, bytes),
     }
-    lines_to(b"sweep: FILE", fd, bytes)
 }
 
-// Writes whole lines to a descriptor; a line on standard error, which begins with the program and
-// what the descriptor is, where that fails, and then no part of a line is left in a file.
-pub fn lines_to(name: &[u8], fd: i32, bytes: &[u8]) -> i32 {
+// Writes whole lines; a line on standard error, which begins with the program and what is written
+// to, where that fails, and then no part of a line is left in a file.
+pub fn lines_to(
+    rt: &HostRuntime,
+    program: &[u8],
+    name: &[u8],
+    to: Stream<'_>,
+    bytes: &[u8],
+) -> Status {
     let mut at = 0;
     while at < bytes.len() {
-        let rest = &bytes[at..];
-        let n = io::count(libc::write(fd, rest), rest);
-        if n == 0 {
-            os::fail(name);
-            cut(fd, unfinished(bytes, at));
-            return ERROR;
+        match written(rt, to, &bytes[at..]) {
+            Ok(n) => at += n,
+            Err(e) => {
+                failure::tell(rt, program, name, e);
+                stream::cut(rt, to, unfinished(bytes, at));
+                return Status::Error;
+            }
         }
-        at += n;
     }
-    DONE
+    Status::Done
+}
+
+// Writes some of the bytes, one at least.
+fn written(rt: &HostRuntime, to: Stream<'_>, bytes: &[u8]) -> io::Result<usize>
+    ensures { IfOk result (λ n. (0 < n) × (n ≤ length bytes.now)) }
+{
+    let n = stream::write(rt, to, bytes)?;
+    if n == 0 {
+        return Err(io::Error::from(io::ErrorKind::WriteZero));
+    }
+    Ok(n)
 }
 
 // How many of the first `end` bytes stand behind the last line's end.
@@ -58,50 +77,25 @@ fn unfinished(bytes: &[u8], end: usize) -> u64
     end as u64
 }
 
-// Cuts so many bytes off the end of a file, where the descriptor is at its end.
-fn cut(fd: i32, bytes: u64) {
-    let at = libc::lseek(fd, 0, libc::SEEK_CUR);
-    let end = libc::lseek(fd, 0, libc::SEEK_END);
-    if at < 0 {
-        return;
-    }
-    if at != end {
-        libc::lseek(fd, at, libc::SEEK_SET);
-        return;
-    }
-    let length = signed::unsigned(at);
-    if length < bytes {
-        return;
-    }
-    libc::ftruncate(fd, signed::signed(length - bytes));
-    libc::lseek(fd, 0, libc::SEEK_END);
-}
-
 // Writes the line that was put at the buffer's start, and ends there: at 0 where it did not fit.
-pub fn line(fd: i32, end: usize, buffer: &[u8]) -> i32 {
+pub fn line(rt: &HostRuntime, to: Stream<'_>, end: usize, buffer: &[u8]) -> Status {
     if end == 0 {
-        return not_listed(0, 9);
+        return not_listed(rt, 0, 9);
     }
     let n = within(end, buffer);
-    lines(fd, &buffer[..n])
+    lines(rt, to, &buffer[..n])
 }
 
 // A first point that the plan does not have.
-pub fn no_point(first: u64, count: u64) -> i32 {
-    io::write_all(STDERR_FILENO, b"sweep: refused, 24: point ");
-    io::print_decimal(STDERR_FILENO, first);
-    io::write_all(STDERR_FILENO, b" isn't below the plan's count, ");
-    io::print_decimal(STDERR_FILENO, count);
-    io::write_all(STDERR_FILENO, b"\n");
-    ERROR
+pub fn no_point(rt: &HostRuntime, first: u64, count: u64) -> Status {
+    let _ = eprintln!(rt;
+        "sweep: refused, 24: point {first} isn't below the plan's count, {count}"
+    );
+    Status::Error
 }
 
 // Lines that a call of the proved libraries did not put.
-pub fn not_listed(first: u64, answer: u64) -> i32 {
-    io::write_all(STDERR_FILENO, b"sweep: refused, ");
-    io::print_decimal(STDERR_FILENO, answer);
-    io::write_all(STDERR_FILENO, b": the lines from point ");
-    io::print_decimal(STDERR_FILENO, first);
-    io::write_all(STDERR_FILENO, b" on\n");
-    ERROR
+pub fn not_listed(rt: &HostRuntime, first: u64, answer: u64) -> Status {
+    let _ = eprintln!(rt; "sweep: refused, {answer}: the lines from point {first} on");
+    Status::Error
 }

@@ -1,8 +1,9 @@
 // point PLAN N: one point in full, for a reader: its values in decimal and hexadecimal and taken
 // apart, the answer in words, what the drawing leaves, and what the window leaves of the array.
-use crate::{arguments, faces, input, listing, output, reason, sweep, version};
+use crate::output::Status;
+use crate::stream::Stream;
+use crate::{arguments, faces, input, listing, output, reason, stream, sweep, version};
 use drawing::Outcome;
-use libc::{STDERR_FILENO, STDOUT_FILENO};
 use operation::Operation;
 use plan::{Plan, ROOM};
 use settings::Settings;
@@ -12,68 +13,68 @@ use text::Number;
 const SPACE: usize = 8192;
 
 // Reads the arguments and the plan, and tells of the point.
-pub fn told() -> i32 {
-    if arguments::is(1, b"--help") | arguments::is(1, b"-h") {
+pub fn told(rt: &HostRuntime) -> Status {
+    if arguments::is(rt, 1, b"--help") | arguments::is(rt, 1, b"-h") {
         return write(
+            rt,
             b"point PLAN N shows point N of a plan in full. PLAN is a file, or - for standard input.\nStatus: 0 done, 1 the plan is refused, 2 an error (one line on standard error).\n",
         );
     }
-    if arguments::is(1, b"--version") {
-        return version::tell(b"point: ");
+    if arguments::is(rt, 1, b"--version") {
+        return version::tell(rt, b"point: ");
     }
-    if os::arg_count() != 3 {
-        return error(b"point: usage: point PLAN N (see point --help)\n");
+    if arguments::count(rt) != 3 {
+        return error(rt, b"point: usage: point PLAN N (see point --help)\n");
     }
-    if arguments::is_option(1) {
-        return error(b"point: unknown option (see point --help)\n");
+    if arguments::is_option(rt, 1) {
+        return error(rt, b"point: unknown option (see point --help)\n");
     }
-    let Number::Value(point) = arguments::number(2) else {
-        return error(b"point: N isn't a decimal number below 2^64\n");
+    let Number::Value(point) = arguments::number(rt, 2) else {
+        return error(rt, b"point: N isn't a decimal number below 2^64\n");
     };
-    over_plan(point)
+    over_plan(rt, point)
 }
 
-fn error(line: &[u8]) -> i32 {
-    io::write_all(STDERR_FILENO, line);
-    output::ERROR
+fn error(rt: &HostRuntime, line: &[u8]) -> Status {
+    stream::complain(rt, line);
+    Status::Error
 }
 
-fn write(bytes: &[u8]) -> i32 {
-    output::lines_to(b"point: standard output", STDOUT_FILENO, bytes)
+fn write(rt: &HostRuntime, bytes: &[u8]) -> Status {
+    output::lines_to(rt, b"point: ", b"standard output", Stream::Standard, bytes)
 }
 
 // Reads the plan.
-fn over_plan(point: u64) -> i32 {
+fn over_plan(rt: &HostRuntime, point: u64) -> Status {
     let mut space = [0u8; sweep::SPACE];
-    let got = input::plan_text(b"point: ", 1, &mut space);
+    let got = input::plan_text(rt, b"point: ", 1, &mut space);
     if !got.good {
-        return output::ERROR;
+        return Status::Error;
     }
     let n = output::within(got.length, &space);
     let text = &space[..n];
     let mut table = [0u64; ROOM];
     let p = plan::read(text, &mut table);
     if p.answer != 0 {
-        reason::tell(1, text, p);
-        return output::REFUSED;
+        reason::tell(rt, 1, text, p);
+        return Status::Refused;
     }
     if point < p.points {
-        return tell(p, &table, point);
+        return tell(rt, p, &table, point);
     }
-    no_point(point, p.points)
+    no_point(rt, point, p.points)
 }
 
 // A point that the plan does not have.
-fn no_point(point: u64, count: u64) -> i32 {
-    io::write_all(STDERR_FILENO, b"point: refused, 24: point ");
-    io::print_decimal(STDERR_FILENO, point);
-    io::write_all(STDERR_FILENO, b" isn't below the plan's count, ");
-    io::print_decimal(STDERR_FILENO, count);
-    error(b"\n")
+fn no_point(rt: &HostRuntime, point: u64, count: u64) -> Status {
+    let _ = eprintln!(rt;
+        "point: refused, 24: point {point} isn't below the plan's count, {count}"
+    );
+    Status::Error
 }
 
 // Runs the point, and writes all that is told of it.
-fn tell(p: Plan, table: &[u64], point: u64) -> i32 {
+fn tell(rt: &HostRuntime, p: Plan, table: &[u64], point: u64) -> Status {
     let mut v = [0u64; names::COUNT];
     decoding::experiment(table, p.axes, point, &mut v);
     let s = settings::settings_of(&v);
@@ -84,7 +85,7 @@ fn tell(p: Plan, table: &[u64], point: u64) -> i32 {
     let run = put_run(&mut out, valued, p, op, s, v[names::SEED]);
     let end = faces::put_arrays(&mut out, run, op, s);
     let n = output::within(end, &out);
-    write(&out[..n])
+    write(rt, &out[..n])
 }
 
 // The point's number, the drawing and the memory.

@@ -1,10 +1,12 @@
 // Progress, where standard error is a terminal and what is written goes elsewhere: points done and
 // of how many, the rate and the time left, at most once a second, each line over the last one.
-use crate::{output, shown, signed};
-use libc::STDERR_FILENO;
+use crate::stream::Stream;
+use crate::{output, shown, stream};
+use std::io::IsTerminal;
+use std::time::{Clock, CpuClock};
 
 // Is it shown; when did the run start, with how many points done before; when was it shown last?
-#[derive(Drop)]
+#[derive(Clone, Copy)]
 pub struct Progress {
     pub on: bool,
     pub begun: u64,
@@ -12,11 +14,11 @@ pub struct Progress {
     pub last: u64,
 }
 
-// A run that writes to a descriptor, with so many points done before it.
-pub fn start(fd: i32, before: u64) -> Progress {
-    let t = now();
+// A run that writes there, with so many points done before it.
+pub fn start(rt: &HostRuntime, to: Stream<'_>, before: u64) -> Progress {
+    let t = now(rt);
     Progress {
-        on: (libc::isatty(STDERR_FILENO) == 1) & (libc::isatty(fd) != 1),
+        on: rt.stderr().is_terminal() & !stream::is_terminal(rt, to),
         begun: t,
         before,
         last: t,
@@ -24,15 +26,15 @@ pub fn start(fd: i32, before: u64) -> Progress {
 }
 
 // A line, where the second is another.
-pub fn tell(p: Progress, done: u64, count: u64) -> Progress {
+pub fn tell(rt: &HostRuntime, p: Progress, done: u64, count: u64) -> Progress {
     if !p.on {
         return p;
     }
-    let t = now();
+    let t = now(rt);
     if t == p.last {
         return p;
     }
-    show(p, t, done, count, false);
+    show(rt, p, t, done, count, false);
     Progress {
         on: true,
         begun: p.begun,
@@ -42,14 +44,14 @@ pub fn tell(p: Progress, done: u64, count: u64) -> Progress {
 }
 
 // The last line.
-pub fn end(p: Progress, done: u64, count: u64) {
+pub fn end(rt: &HostRuntime, p: Progress, done: u64, count: u64) {
     if p.on {
-        show(p, now(), done, count, true);
+        show(rt, p, now(rt), done, count, true);
     }
 }
 
 // `sweep: 61% of 20000 points, 400 a second, 19 s left`.
-fn show(p: Progress, t: u64, done: u64, count: u64, last: bool) {
+fn show(rt: &HostRuntime, p: Progress, t: u64, done: u64, count: u64, last: bool) {
     let seconds = less(t, p.begun);
     let run = less(done, p.before);
     let time = if last {
@@ -68,11 +70,11 @@ fn show(p: Progress, t: u64, done: u64, count: u64, last: bool) {
     let at = put_bytes::number(&mut out, next, time, b' ');
     let end = put_bytes::bytes(&mut out, at, b"s ");
     let n = output::within(end, &out);
-    io::write_all(STDERR_FILENO, &out[..n]);
+    stream::complain(rt, &out[..n]);
     if last {
-        io::write_all(STDERR_FILENO, b"in all  \n");
+        stream::complain(rt, b"in all  \n");
     } else {
-        io::write_all(STDERR_FILENO, b"left  ");
+        stream::complain(rt, b"left  ");
     }
 }
 
@@ -122,16 +124,26 @@ fn less(a: u64, b: u64) -> u64 {
     if a < b { 0 } else { a - b }
 }
 
-// The time in seconds.
-fn now() -> u64 {
-    let mut t: i64 = 0;
-    signed::unsigned(libc::time(&mut t))
+// The time in seconds: 0 where the clock tells none.
+fn now(rt: &HostRuntime) -> u64 {
+    match rt.since_1970() {
+        Ok(time) => time.as_secs(),
+        Err(_) => 0,
+    }
 }
 
-// The processor time spent, in millionths of a second.
-pub fn spent() -> u64 {
-    signed::unsigned(libc::clock())
+// The processor time spent, in millionths of a second: 0 where the clock tells none.
+pub fn spent(rt: &HostRuntime) -> u64 {
+    match rt.process_cpu_time() {
+        Ok(time) => {
+            let whole = time.as_secs().saturating_mul(MILLION);
+            whole.saturating_add(time.subsec_micros() as u64)
+        }
+        Err(_) => 0,
+    }
 }
+
+const MILLION: u64 = 1000000;
 
 // The time between two.
 pub fn took(from: u64, to: u64) -> u64 {

@@ -1,26 +1,30 @@
-// A text that is read from a descriptor line by line, over a lent buffer.
+// A text that is read from a stream line by line, over a lent buffer.
 ghost use Rattle.std.specs.Prelude.{◌≡◌, ◌-◌, ◌≤◌, length};
 
+use crate::stream;
+use crate::stream::Stream;
+use std::io;
+
 // The buffer's bytes from `from` up to `end` are there and not yet handed out.
-#[derive(Drop)]
+#[derive(Clone, Copy)]
 pub struct Reader {
     pub from: usize,
     pub end: usize,
 }
 
 // What comes next: a line, a last one that no line end ends, nothing more, a line that is longer
-// than the buffer, or a read that failed.
-#[derive(Drop)]
+// than the buffer, or a read that failed, and why.
+#[derive(Clone, Copy)]
 pub enum Piece {
     Line,
     Torn,
     Nothing,
     Long,
-    Failed,
+    Failed(io::Error),
 }
 
 // It, where its bytes stand in the buffer, and the reader behind it.
-#[derive(Drop)]
+#[derive(Clone, Copy)]
 pub struct PieceAt {
     pub kind: Piece,
     pub from: usize,
@@ -49,34 +53,30 @@ fn piece_at(kind: Piece, from: usize, to: usize, behind: usize, end: usize) -> P
 
 // The next line. Where it is not whole in the buffer, its bytes are moved to the front and more is
 // read.
-pub fn next(fd: i32, buffer: &mut [u8], r: Reader) -> PieceAt
+pub fn next(rt: &HostRuntime, from: Stream<'_>, buffer: &mut [u8], r: Reader) -> PieceAt
     requires { (r.from ≤ r.end) × (r.end ≤ length buffer.old) }
     ensures from_le_to { (result.from ≤ result.to) × (result.to ≤ length buffer.new) }
     ensures from_le_end { (result.reader.from ≤ result.reader.end)
         × (result.reader.end ≤ length buffer.new) }
     ensures buffer_len_unchanged { length buffer.new ≡ length buffer.old }
 {
-    let mut from = r.from;
+    let mut start = r.from;
     let mut end = r.end;
     loop {
-        let at = line_end(buffer, from, end);
+        let at = line_end(buffer, start, end);
         if at < end {
-            return piece_at(Piece::Line, from, at, at + 1, end);
+            return piece_at(Piece::Line, start, at, at + 1, end);
         }
-        end = moved(buffer, from, end);
-        from = 0;
+        end = moved(buffer, start, end);
+        start = 0;
         if buffer.len() <= end {
             return piece_at(Piece::Long, 0, end, end, end);
         }
-        let got = libc::read(fd, &mut buffer[end..]);
-        if got < 0 {
-            return piece_at(Piece::Failed, 0, end, end, end);
+        match stream::read(rt, from, &mut buffer[end..]) {
+            Ok(0) => return piece_at(last_kind(end), 0, end, end, end),
+            Ok(n) => end += n,
+            Err(e) => return piece_at(Piece::Failed(e), 0, end, end, end),
         }
-        let n = io::count(got, &buffer[end..]);
-        if n == 0 {
-            return piece_at(last_kind(end), 0, end, end, end);
-        }
-        end += n;
     }
 }
 

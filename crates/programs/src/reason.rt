@@ -1,16 +1,15 @@
 // Why a plan is refused, in words: one line on standard error, `PLAN:LINE: refused N: words`, with
 // the word at fault where it is known.
-use crate::{arguments, output, shown};
-use libc::STDERR_FILENO;
+use crate::{arguments, output, shown, stream};
 use plan::Plan;
 
 // A path may be so long, and the rest of the line.
-const SPACE: usize = libc::PATH_MAX + shown::LINE;
+const SPACE: usize = shown::PATH + shown::LINE;
 
 // The line of the plan that argument i names, and whose text this is.
-pub fn tell(i: usize, text: &[u8], p: Plan) {
+pub fn tell(rt: &HostRuntime, i: usize, text: &[u8], p: Plan) {
     let mut out = [0u8; SPACE];
-    let named = put_plan(&mut out, i);
+    let named = put_plan(rt, &mut out, i);
     let colon = put_bytes::bytes(&mut out, named, b":");
     let numbered = put_bytes::number(&mut out, colon, p.line, b':');
     let start = put_bytes::bytes(&mut out, numbered, b" refused ");
@@ -19,16 +18,16 @@ pub fn tell(i: usize, text: &[u8], p: Plan) {
     let at = put_fault(&mut out, behind, text, p);
     let end = put_bytes::bytes(&mut out, at, b"\n");
     let n = output::within(end, &out);
-    io::write_all(STDERR_FILENO, &out[..n]);
+    stream::complain(rt, &out[..n]);
 }
 
 // The plan's name.
-fn put_plan(out: &mut [u8], i: usize) -> usize {
-    if arguments::is(i, b"-") {
+fn put_plan(rt: &HostRuntime, out: &mut [u8], i: usize) -> usize {
+    if arguments::is(rt, i, b"-") {
         return put_bytes::bytes(out, 0, b"standard input");
     }
-    let mut space = io::buffer();
-    let length = os::arg(i, &mut space);
+    let mut space = [0u8; shown::PATH];
+    let length = arguments::fill(rt, i, &mut space);
     shown::put_path(out, 0, &space[..length])
 }
 

@@ -4,11 +4,16 @@
 ghost use Rattle.std.specs.Prelude.{◌≡◌, ◌+◌, ◌^◌, ◌<◌, ◌≤◌, length};
 
 use crate::arguments::FILE;
+use crate::output::Status;
 use crate::reader::{Piece, Reader};
-use crate::{input, listing, output, progress, reader, shown, signed};
-use libc::STDERR_FILENO;
+use crate::stream::Stream;
+use crate::{arguments, failure, input, listing, output, progress, reader, shown, stream};
 use plan::Plan;
 use run::LINE;
+use std::fs::{File, OpenOptions};
+use std::io;
+use std::io::{Seek, SeekFrom};
+use std::os::unix::fs::FileExt;
 
 // The buffer that the file is read over.
 const INPUT: usize = 65536;
@@ -20,7 +25,7 @@ const SOON: u64 = 1000000;
 const ENOUGH: u64 = 10000000;
 
 // Some points of a plan: `count` of them from `first` on.
-#[derive(Drop)]
+#[derive(Clone, Copy)]
 struct Part {
     plan: Plan,
     first: u64,
@@ -29,7 +34,7 @@ struct Part {
 
 // What a file holds: is it a beginning, how many points' lines and how many bytes in whole lines,
 // where the last of these starts, and does part of a line follow?
-#[derive(Drop)]
+#[derive(Clone, Copy)]
 struct Held {
     good: bool,
     points: u64,
@@ -39,104 +44,121 @@ struct Held {
 }
 
 // Goes on with FILE, which is made where it is missing.
-pub fn go_on(p: Plan, table: &[u64], first: u64, count: u64) -> i32 {
+pub fn go_on(rt: &HostRuntime, p: Plan, table: &[u64], first: u64, count: u64) -> Status {
     if (first >= p.points) & (count != 0) {
-        return output::no_point(first, p.points);
-    }
-    let mut space = io::buffer();
-    let length = os::arg(FILE, &mut space);
-    let path = &space[..length];
-    let fd = opened(path);
-    if fd < 0 {
-        input::failed(b"sweep: ", path);
-        return output::ERROR;
-    }
-    if !is_file(fd) {
-        input::failed(b"sweep: ", path);
-        return output::ERROR;
+        return output::no_point(rt, first, p.points);
     }
     let part = Part {
         plan: p,
         first,
         count: listing::asked_of(p, first, count),
     };
+    let mut space = [0u8; shown::PATH];
+    let length = arguments::fill(rt, FILE, &mut space);
+    let path = &space[..length];
+    match opened(rt, path) {
+        Ok(file) => go_on_with(rt, &file, path, part, table),
+        Err(e) => failed(rt, path, e),
+    }
+}
+
+// A file that could not be gone on with.
+fn failed(rt: &HostRuntime, path: &[u8], e: io::Error) -> Status {
+    failure::tell(rt, b"sweep: ", path, e);
+    Status::Error
+}
+
+// The file, open for reading and writing, and at its start.
+fn opened(rt: &HostRuntime, path: &[u8]) -> io::Result<File> {
+    match input::path_of(path) {
+        Ok(path) => at_start(opened_or_made(rt, path)?),
+        Err(e) => Err(e),
+    }
+}
+
+// A file that can be gone about in, at its start. Not so a pipe or a terminal.
+fn at_start(file: File) -> io::Result<File> {
+    let mut at = &file;
+    at.seek(SeekFrom::End(0))?;
+    at.seek(SeekFrom::Start(0))?;
+    Ok(file)
+}
+
+fn opened_or_made(rt: &HostRuntime, path: &str) -> io::Result<File> {
+    match opened_for_both(rt, path) {
+        Ok(file) => Ok(file),
+        Err(e) => {
+            if e.kind() != io::ErrorKind::NotFound {
+                return Err(e);
+            }
+            OpenOptions::new()
+                .write(true)
+                .create_new(true)
+                .open(rt, path)?;
+            opened_for_both(rt, path)
+        }
+    }
+}
+
+fn opened_for_both(rt: &HostRuntime, path: &str) -> io::Result<File> {
+    OpenOptions::new().read(true).write(true).open(rt, path)
+}
+
+// Goes on with an open file.
+fn go_on_with(rt: &HostRuntime, file: &File, path: &[u8], part: Part, table: &[u64]) -> Status
+    requires { part.first + part.count < 2 ^ 64 }
+{
     let mut image = [0u16; names::PLAN_WORDS];
     let mut memory = [0u16; names::PLAN_WORDS];
-    let status = go_on_in(fd, path, part, table, &mut image, &mut memory);
-    libc::close(fd);
-    status
-}
-
-// Can it be gone about in? Not so a pipe or a terminal.
-fn is_file(fd: i32) -> bool {
-    if libc::lseek(fd, 0, libc::SEEK_END) < 0 {
-        return false;
-    }
-    0 <= libc::lseek(fd, 0, libc::SEEK_SET)
-}
-
-// The file, open for reading and writing.
-fn opened(path: &[u8]) -> i32 {
-    let fd = os::open_update(path);
-    if 0 <= fd {
-        return fd;
-    }
-    if os::errno() != libc::ENOENT {
-        return fd;
-    }
-    let made = os::create(path);
-    if made < 0 {
-        return made;
-    }
-    libc::close(made);
-    os::open_update(path)
+    go_on_in(rt, file, path, part, table, &mut image, &mut memory)
 }
 
 // Goes on behind the whole lines, where the file is a beginning.
 fn go_on_in(
-    fd: i32,
+    rt: &HostRuntime,
+    file: &File,
     path: &[u8],
     part: Part,
     table: &[u64],
     image: &mut [u16],
     memory: &mut [u16],
-) -> i32
+) -> Status
     requires { part.first + part.count < 2 ^ 64 }
 {
-    let held = held_in(fd, path, part, table, image, memory);
+    let held = held_in(rt, file, path, part, table, image, memory);
     if !held.good {
-        return output::ERROR;
+        return Status::Error;
     }
-    if !at_end(fd, held.bytes, held.torn) {
-        input::failed(b"sweep: ", path);
-        return output::ERROR;
+    if let Err(e) = at_end(file, held.bytes, held.torn) {
+        return failed(rt, path, e);
     }
+    let to = Stream::File(file);
     if held.bytes == 0 {
-        let status = listing::heading(fd, part.first);
-        if status != output::DONE {
+        let status = listing::heading(rt, to, part.first);
+        if status != Status::Done {
             return status;
         }
     }
     let before = listing::least(held.points, part.count);
     listing::run_all(
-        fd, part.plan, table, part.first, part.count, before, image, memory,
+        rt, to, part.plan, table, part.first, part.count, before, image, memory,
     )
 }
 
 // Cuts the file behind so many bytes where part of a line follows, and goes to its end.
-fn at_end(fd: i32, bytes: u64, torn: bool) -> bool {
+fn at_end(file: &File, bytes: u64, torn: bool) -> io::Result<()> {
     if torn {
-        if libc::ftruncate(fd, signed::signed(bytes)) < 0 {
-            return false;
-        }
+        file.set_len(bytes)?;
     }
-    libc::lseek(fd, 0, libc::SEEK_END);
-    true
+    let mut at = file;
+    let _ = at.seek(SeekFrom::End(0));
+    Ok(())
 }
 
 // What the file holds; a line on standard error where it is no beginning.
 fn held_in(
-    fd: i32,
+    rt: &HostRuntime,
+    file: &File,
     path: &[u8],
     part: Part,
     table: &[u64],
@@ -144,20 +166,20 @@ fn held_in(
     memory: &mut [u16],
 ) -> Held {
     let mut space = [0u8; INPUT];
-    let seen = heading_in(fd, path, part.first, &mut space);
+    let seen = heading_in(rt, file, path, part.first, &mut space);
     let held = seen.held;
     if !seen.more {
         return held;
     }
     let reader = seen.reader;
     let found = points_in(
-        fd, path, part, table, seen.bytes, reader, &mut space, image, memory,
+        rt, file, path, part, table, seen.bytes, reader, &mut space, image, memory,
     );
-    last_again(fd, path, part, table, found, image, memory)
+    last_again(rt, file, path, part, table, found, image, memory)
 }
 
 // The heading, where the listing's start is asked for.
-fn heading_in(fd: i32, path: &[u8], first: u64, space: &mut [u8]) -> Seen
+fn heading_in(rt: &HostRuntime, file: &File, path: &[u8], first: u64, space: &mut [u8]) -> Seen
     ensures { (result.reader.from ≤ result.reader.end)
         × (result.reader.end ≤ length space.new) }
 {
@@ -165,12 +187,12 @@ fn heading_in(fd: i32, path: &[u8], first: u64, space: &mut [u8]) -> Seen
     if first != 0 {
         return seen_of(true, beginning_of(0, 0, 0, false), start);
     }
-    let found = reader::next(fd, space, start);
+    let found = reader::next(rt, Stream::File(file), space, start);
     let from = found.from;
     let to = found.to;
     let kind = found.kind;
     let reader = found.reader;
-    let held = heading_of(kind, path, &space[from..to]);
+    let held = heading_of(rt, kind, path, &space[from..to]);
     seen_of(0 < held.bytes, held, reader)
 }
 
@@ -189,18 +211,18 @@ fn seen_of(more: bool, held: Held, reader: Reader) -> Seen
 }
 
 // What the file holds with these bytes, which are the heading or what stands there.
-fn heading_of(kind: Piece, path: &[u8], line: &[u8]) -> Held {
+fn heading_of(rt: &HostRuntime, kind: Piece, path: &[u8], line: &[u8]) -> Held {
     match kind {
         Piece::Nothing => beginning_of(0, 0, 0, false),
-        Piece::Failed => unread(path),
+        Piece::Failed(e) => unread(rt, path, e),
         Piece::Line => {
             if is_heading(line) {
                 return beginning_of(0, behind(0, line.len()), 0, false);
             }
-            no_beginning(path, 1)
+            no_beginning(rt, path, 1)
         }
-        Piece::Torn => torn_heading(path, line),
-        Piece::Long => no_beginning(path, 1),
+        Piece::Torn => torn_heading(rt, path, line),
+        Piece::Long => no_beginning(rt, path, 1),
     }
 }
 
@@ -224,14 +246,14 @@ fn one_more(n: u64) -> u64 {
 }
 
 // A file that is no beginning, by one of its lines, counted from 1.
-fn no_beginning(path: &[u8], line: u64) -> Held {
-    let mut out = [0u8; libc::PATH_MAX + shown::LINE];
+fn no_beginning(rt: &HostRuntime, path: &[u8], line: u64) -> Held {
+    let mut out = [0u8; shown::PATH + shown::LINE];
     let start = put_bytes::bytes(&mut out, 0, b"sweep: ");
     let named = shown::put_path(&mut out, start, path);
     let next = put_bytes::bytes(&mut out, named, b": not a beginning of the listing: line ");
     let end = put_bytes::number(&mut out, next, line, ascii::LINE_END);
     let n = output::within(end, &out);
-    io::write_all(STDERR_FILENO, &out[..n]);
+    stream::complain(rt, &out[..n]);
     bad()
 }
 
@@ -263,14 +285,14 @@ fn is_line(line: &[u8], whole: &[u8]) -> bool {
 }
 
 // A file that has a part of the heading only.
-fn torn_heading(path: &[u8], torn: &[u8]) -> Held {
+fn torn_heading(rt: &HostRuntime, path: &[u8], torn: &[u8]) -> Held {
     let mut space = [0u8; LINE];
     let end = first_line::put_heading(&mut space, 0);
     let n = output::within(end, &space);
     if starts(&space[..n], torn) {
         return beginning_of(0, 0, 0, true);
     }
-    no_beginning(path, 1)
+    no_beginning(rt, path, 1)
 }
 
 // Are these the first bytes of a line, and not all of them?
@@ -284,7 +306,7 @@ fn starts(line: &[u8], bytes: &[u8]) -> bool {
 
 // What is known behind a line: is there more, and if not, what the file holds; the reader, the
 // bytes of whole lines, where the last of these starts, and which point is run again next.
-#[derive(Drop)]
+#[derive(Clone, Copy)]
 struct Seen {
     more: bool,
     held: Held,
@@ -296,7 +318,8 @@ struct Seen {
 
 // The points' lines, from a reader on, behind so many bytes.
 fn points_in(
-    fd: i32,
+    rt: &HostRuntime,
+    file: &File,
     path: &[u8],
     part: Part,
     table: &[u64],
@@ -315,7 +338,7 @@ fn points_in(
     let mut k: u64 = 0;
     while k < part.count {
         let seen = line_in(
-            fd, path, part, table, k, r, bytes, again, space, image, memory,
+            rt, file, path, part, table, k, r, bytes, again, space, image, memory,
         );
         if !seen.more {
             return closed(seen, k, last);
@@ -326,7 +349,7 @@ fn points_in(
         again = seen.again;
         k += 1;
     }
-    all_in(fd, path, part, r, bytes, last, space)
+    all_in(rt, file, path, part, r, bytes, last, space)
 }
 
 // What a file holds that ends behind the lines of k points, the last of which starts there.
@@ -343,7 +366,8 @@ fn closed(seen: Seen, k: u64, last: u64) -> Held {
 
 // A file with the lines of all points: there must be nothing more.
 fn all_in(
-    fd: i32,
+    rt: &HostRuntime,
+    file: &File,
     path: &[u8],
     part: Part,
     r: Reader,
@@ -353,18 +377,19 @@ fn all_in(
 ) -> Held
     requires { (r.from ≤ r.end) × (r.end ≤ length space.old) }
 {
-    let found = reader::next(fd, space, r);
+    let found = reader::next(rt, Stream::File(file), space, r);
     let kind = found.kind;
     match kind {
         Piece::Nothing => beginning_of(part.count, bytes, last, false),
-        Piece::Failed => unread(path),
-        _ => no_beginning(path, line_number(part.first, part.count)),
+        Piece::Failed(e) => unread(rt, path, e),
+        _ => no_beginning(rt, path, line_number(part.first, part.count)),
     }
 }
 
 // The line of the point k of the part, behind so many bytes.
 fn line_in(
-    fd: i32,
+    rt: &HostRuntime,
+    file: &File,
     path: &[u8],
     part: Part,
     table: &[u64],
@@ -380,12 +405,13 @@ fn line_in(
     ensures { (result.reader.from ≤ result.reader.end)
         × (result.reader.end ≤ length space.new) }
 {
-    let found = reader::next(fd, space, r);
+    let found = reader::next(rt, Stream::File(file), space, r);
     let from = found.from;
     let to = found.to;
     let kind = found.kind;
     let reader = found.reader;
     let held = told_of(
+        rt,
         kind,
         path,
         part,
@@ -410,6 +436,7 @@ fn line_in(
 // What the file holds with these bytes, which are the line of point k or what stands there: more
 // bytes than before where they are its line.
 fn told_of(
+    rt: &HostRuntime,
     kind: Piece,
     path: &[u8],
     part: Part,
@@ -424,21 +451,21 @@ fn told_of(
     let point = std::num::wrapping_add_u64(part.first, k);
     match kind {
         Piece::Nothing => beginning_of(k, bytes, 0, false),
-        Piece::Failed => unread(path),
+        Piece::Failed(e) => unread(rt, path, e),
         Piece::Line => {
-            let whole = is_run_again(k, again, progress::spent());
+            let whole = is_run_again(k, again, progress::spent(rt));
             if taken(part.plan, table, point, line, whole, image, memory) {
                 return beginning_of(k, behind(bytes, line.len()), 0, false);
             }
-            no_beginning(path, line_number(part.first, k))
+            no_beginning(rt, path, line_number(part.first, k))
         }
         Piece::Torn => {
             if begins_line(part.plan, table, point, line, image, memory) {
                 return beginning_of(k, bytes, 0, true);
             }
-            no_beginning(path, line_number(part.first, k))
+            no_beginning(rt, path, line_number(part.first, k))
         }
-        Piece::Long => no_beginning(path, line_number(part.first, k)),
+        Piece::Long => no_beginning(rt, path, line_number(part.first, k)),
     }
 }
 
@@ -465,8 +492,8 @@ fn next_again(k: u64, again: u64) -> u64 {
 }
 
 // A file that could not be read.
-fn unread(path: &[u8]) -> Held {
-    input::failed(b"sweep: ", path);
+fn unread(rt: &HostRuntime, path: &[u8], e: io::Error) -> Held {
+    failure::tell(rt, b"sweep: ", path, e);
     bad()
 }
 
@@ -521,7 +548,8 @@ fn begins_line(
 
 // The last whole line of a beginning, run again.
 fn last_again(
-    fd: i32,
+    rt: &HostRuntime,
+    file: &File,
     path: &[u8],
     part: Part,
     table: &[u64],
@@ -536,13 +564,12 @@ fn last_again(
         return found;
     }
     let mut line = [0u8; LINE];
-    let got = libc::pread(fd, &mut line, signed::signed(found.last));
-    let n = io::count(got, &line);
+    let n = file.read_at(&mut line, found.last).unwrap_or(0);
     let whole = text::part(&line[..n], 0, ascii::LINE_END);
     let k = found.points - 1;
     let point = std::num::wrapping_add_u64(part.first, k);
     if is_own(part.plan, table, point, whole, image, memory) {
         return found;
     }
-    no_beginning(path, line_number(part.first, k))
+    no_beginning(rt, path, line_number(part.first, k))
 }

@@ -1,8 +1,9 @@
 // --at: the lines of the points whose numbers stand on standard input, one on a line.
 use crate::arguments::Form;
+use crate::output::Status;
 use crate::reader::Piece;
-use crate::{input, listing, output, reader, shown, values};
-use libc::{STDERR_FILENO, STDIN_FILENO, STDOUT_FILENO};
+use crate::stream::Stream;
+use crate::{failure, listing, output, reader, shown, stream, values};
 use plan::Plan;
 use text::Number;
 
@@ -10,47 +11,55 @@ use text::Number;
 const INPUT: usize = 65536;
 
 // The heading, and a line for each number.
-pub fn list(form: Form, p: Plan, table: &[u64]) -> i32 {
-    let status = values::heading(form, 0);
-    if status != output::DONE {
+pub fn list(rt: &HostRuntime, form: Form, p: Plan, table: &[u64]) -> Status {
+    let status = values::heading(rt, form, 0);
+    if status != Status::Done {
         return status;
     }
     let mut image = [0u16; names::PLAN_WORDS];
     let mut memory = [0u16; names::PLAN_WORDS];
-    list_all(form, p, table, &mut image, &mut memory)
+    list_all(rt, form, p, table, &mut image, &mut memory)
 }
 
 // A line for each number.
-fn list_all(form: Form, p: Plan, table: &[u64], image: &mut [u16], memory: &mut [u16]) -> i32 {
+fn list_all(
+    rt: &HostRuntime,
+    form: Form,
+    p: Plan,
+    table: &[u64],
+    image: &mut [u16],
+    memory: &mut [u16],
+) -> Status {
     let mut space = [0u8; INPUT];
     let mut r = reader::start();
     let mut line: u64 = 0;
     while line < u64::MAX {
         line += 1;
-        let found = reader::next(STDIN_FILENO, &mut space, r);
+        let found = reader::next(rt, Stream::Standard, &mut space, r);
         let kind = found.kind;
         let from = found.from;
         let to = found.to;
         match kind {
-            Piece::Nothing => return output::DONE,
-            Piece::Failed => {
-                input::failed(b"sweep: ", b"standard input");
-                return output::ERROR;
+            Piece::Nothing => return Status::Done,
+            Piece::Failed(e) => {
+                failure::tell(rt, b"sweep: ", b"standard input", e);
+                return Status::Error;
             }
             _ => {
-                let status = list_one(form, p, table, line, &space[from..to], image, memory);
-                if status != output::DONE {
+                let status = list_one(rt, form, p, table, line, &space[from..to], image, memory);
+                if status != Status::Done {
                     return status;
                 }
             }
         }
         r = found.reader;
     }
-    output::DONE
+    Status::Done
 }
 
 // The line of the point that a line of input names.
 fn list_one(
+    rt: &HostRuntime,
     form: Form,
     p: Plan,
     table: &[u64],
@@ -58,20 +67,20 @@ fn list_one(
     word: &[u8],
     image: &mut [u16],
     memory: &mut [u16],
-) -> i32 {
+) -> Status {
     match text::parse(word) {
         Number::Value(point) => {
             if point < p.points {
-                return write(form, p, table, point, image, memory);
+                return write(rt, form, p, table, point, image, memory);
             }
-            no_point(line, word)
+            no_point(rt, line, word)
         }
-        Number::Bad => no_point(line, word),
+        Number::Bad => no_point(rt, line, word),
     }
 }
 
 // A line of input that names no point of the plan.
-fn no_point(line: u64, word: &[u8]) -> i32 {
+fn no_point(rt: &HostRuntime, line: u64, word: &[u8]) -> Status {
     let mut out = [0u8; shown::LINE];
     let start = put_bytes::bytes(&mut out, 0, b"sweep: line ");
     let numbered = put_bytes::number(&mut out, start, line, b' ');
@@ -79,29 +88,30 @@ fn no_point(line: u64, word: &[u8]) -> i32 {
     let at = shown::put(&mut out, next, word);
     let end = put_bytes::bytes(&mut out, at, b"\n");
     let n = output::within(end, &out);
-    io::write_all(STDERR_FILENO, &out[..n]);
-    output::ERROR
+    stream::complain(rt, &out[..n]);
+    Status::Error
 }
 
 // Writes the line of a point.
 fn write(
+    rt: &HostRuntime,
     form: Form,
     p: Plan,
     table: &[u64],
     point: u64,
     image: &mut [u16],
     memory: &mut [u16],
-) -> i32 {
+) -> Status {
     match form {
         Form::Results => {
             let mut space = [0u8; run::LINE];
             let end = listing::own_line(p, table, point, &mut space, image, memory);
-            output::line(STDOUT_FILENO, end, &space)
+            output::line(rt, Stream::Standard, end, &space)
         }
         _ => {
             let mut space = [0u8; values::LINE];
             let end = values::put(form, p.axes, table, point, &mut space, 0);
-            output::line(STDOUT_FILENO, end, &space)
+            output::line(rt, Stream::Standard, end, &space)
         }
     }
 }

@@ -2,6 +2,9 @@
 // one line.
 ghost use Rattle.std.specs.Prelude.{◌≡◌, length};
 
+// A path is no longer, and no other argument that is read.
+pub const PATH: usize = 4096;
+
 // A message is no longer, but for a path in it.
 pub const LINE: usize = 256;
 
@@ -22,7 +25,7 @@ pub fn put(out: &mut [u8], at: usize, word: &[u8]) -> usize
 pub fn put_path(out: &mut [u8], at: usize, path: &[u8]) -> usize
     ensures { length out.new ≡ length out.old }
 {
-    put_most(out, at, path, libc::PATH_MAX)
+    put_most(out, at, path, PATH)
 }
 
 // Puts at most so many bytes, as far as they fit.

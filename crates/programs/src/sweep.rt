@@ -1,5 +1,7 @@
 // sweep: a plan read and run, by the proved libraries.
 use crate::arguments::{Asked, Form, Task};
+use crate::output::Status;
+use crate::stream::Stream;
 use crate::{arguments, help, input, listing, output, reason, resume, sample, values, version};
 use plan::{Plan, ROOM, TEXT};
 
@@ -7,77 +9,77 @@ use plan::{Plan, ROOM, TEXT};
 pub const SPACE: usize = TEXT + 1;
 
 // Reads the arguments, and does what they ask for.
-pub fn swept() -> i32 {
-    let asked = arguments::read();
+pub fn swept(rt: &HostRuntime) -> Status {
+    let asked = arguments::read(rt);
     let task = asked.task;
     match task {
-        Task::Bad => output::ERROR,
-        Task::Help => help::tell(),
-        Task::Version => version::tell(b"sweep: "),
-        _ => over_plan(asked),
+        Task::Bad => Status::Error,
+        Task::Help => help::tell(rt),
+        Task::Version => version::tell(rt, b"sweep: "),
+        _ => over_plan(rt, asked),
     }
 }
 
 // Reads the plan.
-fn over_plan(asked: Asked) -> i32 {
+fn over_plan(rt: &HostRuntime, asked: Asked) -> Status {
     let mut space = [0u8; SPACE];
-    let got = input::plan_text(b"sweep: ", asked.plan, &mut space);
+    let got = input::plan_text(rt, b"sweep: ", asked.plan, &mut space);
     if !got.good {
-        return output::ERROR;
+        return Status::Error;
     }
     let n = output::within(got.length, &space);
     let text = &space[..n];
     let mut table = [0u64; ROOM];
     let p = plan::read(text, &mut table);
     if p.answer != 0 {
-        return refused(asked, text, p);
+        return refused(rt, asked, text, p);
     }
-    done(asked, p, &table)
+    done(rt, asked, p, &table)
 }
 
 // A refused plan: why, and its line in the listing's place where its start is asked for.
-fn refused(asked: Asked, text: &[u8], p: Plan) -> i32 {
-    reason::tell(asked.plan, text, p);
+fn refused(rt: &HostRuntime, asked: Asked, text: &[u8], p: Plan) -> Status {
+    reason::tell(rt, asked.plan, text, p);
     let task = asked.task;
     let status = match task {
-        Task::Points | Task::Resume => output::DONE,
-        _ => listing::refused(asked.first, p),
+        Task::Points | Task::Resume => Status::Done,
+        _ => listing::refused(rt, asked.first, p),
     };
-    if status != output::DONE {
+    if status != Status::Done {
         return status;
     }
-    output::REFUSED
+    Status::Refused
 }
 
 // What is asked for of an accepted plan.
-fn done(asked: Asked, p: Plan, table: &[u64]) -> i32 {
+fn done(rt: &HostRuntime, asked: Asked, p: Plan, table: &[u64]) -> Status {
     let task = asked.task;
     match task {
-        Task::Points => points(p.points),
-        Task::At => sampled(asked, p, table),
-        Task::Resume => resume::go_on(p, table, asked.first, asked.count),
-        _ => listed(asked, p, table),
+        Task::Points => points(rt, p.points),
+        Task::At => sampled(rt, asked, p, table),
+        Task::Resume => resume::go_on(rt, p, table, asked.first, asked.count),
+        _ => listed(rt, asked, p, table),
     }
 }
 
 // The points that standard input names.
-fn sampled(asked: Asked, p: Plan, table: &[u64]) -> i32 {
+fn sampled(rt: &HostRuntime, asked: Asked, p: Plan, table: &[u64]) -> Status {
     let form = asked.form;
-    sample::list(form, p, table)
+    sample::list(rt, form, p, table)
 }
 
 // The listing, or the values of its points.
-fn listed(asked: Asked, p: Plan, table: &[u64]) -> i32 {
+fn listed(rt: &HostRuntime, asked: Asked, p: Plan, table: &[u64]) -> Status {
     let form = asked.form;
     match form {
-        Form::Results => listing::list(p, table, asked.first, asked.count),
-        _ => values::list(form, p, table, asked.first, asked.count),
+        Form::Results => listing::list(rt, p, table, asked.first, asked.count),
+        _ => values::list(rt, form, p, table, asked.first, asked.count),
     }
 }
 
 // The count of points.
-fn points(count: u64) -> i32 {
+fn points(rt: &HostRuntime, count: u64) -> Status {
     let mut space = [0u8; put_lines::NUMBER];
     let end = put_bytes::number(&mut space, 0, count, ascii::LINE_END);
-    output::line(libc::STDOUT_FILENO, end, &space)
+    output::line(rt, Stream::Standard, end, &space)
 }

@@ -3,6 +3,8 @@
 ghost use Rattle.std.specs.Prelude.{◌+◌, ◌^◌, ◌<◌};
 
 use crate::arguments::Form;
+use crate::output::Status;
+use crate::stream::Stream;
 use crate::{listing, output};
 use plan::Plan;
 use put_lines::NUMBER;
@@ -14,13 +16,13 @@ const BATCH: u64 = 128;
 pub const LINE: usize = (names::COUNT + 1) * NUMBER;
 
 // The heading, where the start is asked for.
-pub fn heading(form: Form, first: u64) -> i32 {
+pub fn heading(rt: &HostRuntime, form: Form, first: u64) -> Status {
     if first != 0 {
-        return output::DONE;
+        return Status::Done;
     }
     let mut space = [0u8; LINE];
     let end = put_heading(form, &mut space);
-    output::line(libc::STDOUT_FILENO, end, &space)
+    output::line(rt, Stream::Standard, end, &space)
 }
 
 fn put_heading(form: Form, out: &mut [u8]) -> usize {
@@ -33,15 +35,23 @@ fn put_heading(form: Form, out: &mut [u8]) -> usize {
 
 // The heading, and the lines of `count` points from `first` on, or as many as there are. With count
 // 0 no point is asked for.
-pub fn list(form: Form, p: Plan, table: &[u64], first: u64, count: u64) -> i32 {
+pub fn list(
+    rt: &HostRuntime,
+    form: Form,
+    p: Plan,
+    table: &[u64],
+    first: u64,
+    count: u64,
+) -> Status {
     if (first >= p.points) & (count != 0) {
-        return output::no_point(first, p.points);
+        return output::no_point(rt, first, p.points);
     }
-    let status = heading(form, first);
-    if status != output::DONE {
+    let status = heading(rt, form, first);
+    if status != Status::Done {
         return status;
     }
     write_all(
+        rt,
         form,
         p.axes,
         table,
@@ -51,23 +61,37 @@ pub fn list(form: Form, p: Plan, table: &[u64], first: u64, count: u64) -> i32 {
 }
 
 // The lines of `count` points from `first` on, some at a time.
-fn write_all(form: Form, axes: u64, table: &[u64], first: u64, count: u64) -> i32
+fn write_all(
+    rt: &HostRuntime,
+    form: Form,
+    axes: u64,
+    table: &[u64],
+    first: u64,
+    count: u64,
+) -> Status
     requires { first + count < 2 ^ 64 }
 {
     let mut done: u64 = 0;
     while done < count {
         let n = listing::least(BATCH, count - done);
-        let status = write_some(form, axes, table, first + done, n);
-        if status != output::DONE {
+        let status = write_some(rt, form, axes, table, first + done, n);
+        if status != Status::Done {
             return status;
         }
         done += n;
     }
-    output::DONE
+    Status::Done
 }
 
 // The lines of at most BATCH points.
-fn write_some(form: Form, axes: u64, table: &[u64], first: u64, count: u64) -> i32
+fn write_some(
+    rt: &HostRuntime,
+    form: Form,
+    axes: u64,
+    table: &[u64],
+    first: u64,
+    count: u64,
+) -> Status
     requires { first + count < 2 ^ 64 }
 {
     let mut space = [0u8; LINE * BATCH as usize];
@@ -76,13 +100,13 @@ fn write_some(form: Form, axes: u64, table: &[u64], first: u64, count: u64) -> i
     while i < count {
         let next = put(form, axes, table, first + i, &mut space, at);
         if next == at {
-            return output::not_listed(first + i, 9);
+            return output::not_listed(rt, first + i, 9);
         }
         at = next;
         i += 1;
     }
     let n = output::within(at, &space);
-    output::lines(libc::STDOUT_FILENO, &space[..n])
+    output::lines(rt, Stream::Standard, &space[..n])
 }
 
 // Puts the line of a point, and gives the index behind it; the index itself where there is no such

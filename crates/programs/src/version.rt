@@ -1,34 +1,36 @@
 // --version: the file NAME.version that stands in lib/buckethare beside the program's folder.
-ghost use Rattle.libc.specs.Io.{Ended};
 ghost use Rattle.std.specs.Prelude.{◌≤◌, length};
+ghost use Rattle.io.specs.Counts.{IsPrefixLen};
 
-use crate::{input, output, shown};
-use libc::PATH_MAX;
+use crate::output::Status;
+use crate::shown::PATH;
+use crate::stream::Stream;
+use crate::{failure, input, output, stream};
+use std::env;
+use std::fs::File;
 
 // Writes the file to standard output; a line on standard error, which begins with the program's
 // name, where it is not there.
-pub fn tell(program: &[u8]) -> i32 {
-    let mut place = io::buffer();
-    let from = own_path();
-    let n = io::count(libc::readlink(&from, &mut place), &place);
-    let folder = folder_end(&place[..n]);
-    let mut path = [0u8; 2 * PATH_MAX];
-    let start = put_bytes::bytes(&mut path, 0, &place[0..folder]);
-    let next = put_bytes::bytes(&mut path, start, b"/../lib/buckethare");
-    let name = put_bytes::bytes(&mut path, next, &place[folder..n]);
-    let end = put_bytes::bytes(&mut path, name, b".version");
-    let length = output::within(end, &path);
-    copied(program, &path[..length])
+pub fn tell(rt: &HostRuntime, program: &[u8]) -> Status {
+    match env::current_exe(rt) {
+        Ok(place) => tell_beside(rt, program, place.as_str().as_bytes()),
+        Err(e) => {
+            failure::tell(rt, program, b"/proc/self/exe", e);
+            Status::Error
+        }
+    }
 }
 
-// The link to the program that runs.
-fn own_path() -> [u8; PATH_MAX]
-    ensures { Ended result }
-{
-    let mut path = io::buffer();
-    put_bytes::bytes(&mut path, 0, b"/proc/self/exe");
-    path[PATH_MAX - 1] = 0;
-    path
+// The same, of the program at this place.
+fn tell_beside(rt: &HostRuntime, program: &[u8], place: &[u8]) -> Status {
+    let folder = folder_end(place);
+    let mut path = [0u8; 2 * PATH];
+    let start = put_bytes::bytes(&mut path, 0, &place[..folder]);
+    let next = put_bytes::bytes(&mut path, start, b"/../lib/buckethare");
+    let name = put_bytes::bytes(&mut path, next, &place[folder..]);
+    let end = put_bytes::bytes(&mut path, name, b".version");
+    let length = output::within(end, &path);
+    copied(rt, program, &path[..length])
 }
 
 // Where the last / of a path stands: at 0 where there is none.
@@ -46,23 +48,40 @@ fn folder_end(path: &[u8]) -> usize
 }
 
 // Writes a small file to standard output.
-fn copied(program: &[u8], path: &[u8]) -> i32 {
-    let fd = os::open_read(path);
-    if fd < 0 {
-        input::failed(program, path);
-        return output::ERROR;
+fn copied(rt: &HostRuntime, program: &[u8], path: &[u8]) -> Status {
+    match input::opened(rt, path) {
+        Ok(file) => told(rt, program, &file),
+        Err(e) => {
+            failure::tell(rt, program, path, e);
+            Status::Error
+        }
     }
-    let mut space = io::buffer();
-    let n = io::read_full(fd, &mut space);
-    libc::close(fd);
-    told(program, &space[..n])
 }
 
 // Writes its lines.
-fn told(program: &[u8], bytes: &[u8]) -> i32 {
-    let mut name = [0u8; shown::LINE];
-    let start = put_bytes::bytes(&mut name, 0, program);
-    let end = put_bytes::bytes(&mut name, start, b"standard output");
-    let n = output::within(end, &name);
-    output::lines_to(&name[..n], libc::STDOUT_FILENO, bytes)
+fn told(rt: &HostRuntime, program: &[u8], file: &File) -> Status {
+    let mut space = [0u8; PATH];
+    let n = read_full(rt, file, &mut space);
+    output::lines_to(
+        rt,
+        program,
+        b"standard output",
+        Stream::Standard,
+        &space[..n],
+    )
+}
+
+// Reads until the buffer is full, the file ends or a read fails, and gives how many bytes it put at
+// the buffer's start.
+fn read_full(rt: &HostRuntime, file: &File, buffer: &mut [u8]) -> usize
+    ensures { IsPrefixLen result buffer.new }
+{
+    let mut done = 0;
+    while done < buffer.len() {
+        match stream::read(rt, Stream::File(file), &mut buffer[done..]) {
+            Ok(0) | Err(_) => break,
+            Ok(n) => done += n,
+        }
+    }
+    done
 }

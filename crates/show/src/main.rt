@@ -1,57 +1,60 @@
 // Shows what there is: a field read and written, what it costs, an image, eight
 // fetches of the instruction cache.
+#![tactic(auto)]
+
 use cache::{Cache, Kind};
-use libc::STDOUT_FILENO;
 use states::Mode;
 
-fn main() {
-    show_field();
-    show_image();
-    show_cache();
+fn main(rt: HostRuntime) {
+    show_field(&rt);
+    show_image(&rt);
+    show_cache(&rt);
 }
 
-fn text(bytes: &[u8]) {
-    io::write_all(STDOUT_FILENO, bytes);
+// What cannot be written is let go.
+fn text(rt: &impl Print, text: &str) {
+    let _ = rt.print(text);
 }
 
-fn number(n: u64) {
-    io::print_decimal(STDOUT_FILENO, n);
+fn number(rt: &impl Print, n: u64) {
+    let _ = rt.print(n);
 }
 
-fn hex(n: u64, width: usize) {
-    io::print_hex(STDOUT_FILENO, n, width);
+// In so many hexadecimal digits, or more.
+fn hex(rt: &impl Print, n: u64, width: usize) {
+    let _ = print!(rt; "{n:0width$x}");
 }
 
 // Size 8 at address 12 over two words: read, its costs, and the words after a write.
-fn show_field() {
+fn show_field(rt: &impl Print) {
     let mut space = [61440u16, 10u16];
     let memory: &mut [u16] = &mut space;
-    text(b"field of 8 bits at address 12 over f000 000a\n");
+    text(rt, "field of 8 bits at address 12 over f000 000a\n");
     let plain = field::read(memory, 12, 8, false);
-    text(b"  read\t");
-    hex(plain.value as u64, 8);
+    text(rt, "  read\t");
+    hex(rt, plain.value as u64, 8);
     let signed = field::read(memory, 12, 8, true);
-    text(b"\n  signed\t");
-    hex(signed.value as u64, 8);
+    text(rt, "\n  signed\t");
+    hex(rt, signed.value as u64, 8);
     let cycles = timing::field_cycles(12, 8);
-    text(b"\n  memory cycles of a read, of a write\t");
-    number(cycles.read as u64);
-    text(b"\t");
-    number(cycles.write as u64);
+    text(rt, "\n  memory cycles of a read, of a write\t");
+    number(rt, cycles.read as u64);
+    text(rt, "\t");
+    number(rt, cycles.write as u64);
     let states = states::move_states(12, 8, Mode::Indirect, false, true);
-    text(b"\n  states of MOVE in cache\t");
-    number(states.states as u64);
+    text(rt, "\n  states of MOVE in cache\t");
+    number(rt, states.states as u64);
     let answer = field::write(memory, 12, 8, 51);
-    text(b"\n  write 33\tanswer ");
-    number(answer as u64);
+    text(rt, "\n  write 33\tanswer ");
+    number(rt, answer as u64);
     let past = field::write(memory, 4294967295, 8, 51);
-    text(b"\n  write at ffffffff\tanswer ");
-    number(past as u64);
-    text(b"\n");
+    text(rt, "\n  write at ffffffff\tanswer ");
+    number(rt, past as u64);
+    text(rt, "\n");
 }
 
 // The image of seed 1 over four words, and the bits in which it differs from zeros.
-fn show_image() {
+fn show_image(rt: &impl Print) {
     let zeros = [0u16; 4];
     let mut space = [0u16; 4];
     let memory: &mut [u16] = &mut space;
@@ -59,45 +62,45 @@ fn show_image() {
     let low = field::read(memory, 0, 32, false);
     let high = field::read(memory, 32, 32, false);
     let counted = memory::changed(&zeros, memory);
-    text(b"image of seed 1 over 4 words\n  words 1 and 0\t");
-    hex(low.value as u64, 8);
-    text(b"\n  words 3 and 2\t");
-    hex(high.value as u64, 8);
-    text(b"\n  bits that are 1\t");
-    number(counted.bits);
-    text(b"\n");
+    text(rt, "image of seed 1 over 4 words\n  words 1 and 0\t");
+    hex(rt, low.value as u64, 8);
+    text(rt, "\n  words 3 and 2\t");
+    hex(rt, high.value as u64, 8);
+    text(rt, "\n  bits that are 1\t");
+    number(rt, counted.bits);
+    text(rt, "\n");
 }
 
 // Eight fetches from the fresh cache.
-fn show_cache() {
-    text(b"fetches from the fresh cache\n");
-    let a = shown(Cache::fresh(), 0);
-    let b = shown(a, 64);
-    let c = shown(b, 16);
-    let d = shown(c, 512);
-    let e = shown(d, 1024);
-    let f = shown(e, 1536);
-    let g = shown(f, 2048);
-    shown(g, 0);
+fn show_cache(rt: &impl Print) {
+    text(rt, "fetches from the fresh cache\n");
+    let a = shown(rt, Cache::fresh(), 0);
+    let b = shown(rt, a, 64);
+    let c = shown(rt, b, 16);
+    let d = shown(rt, c, 512);
+    let e = shown(rt, d, 1024);
+    let f = shown(rt, e, 1536);
+    let g = shown(rt, f, 2048);
+    shown(rt, g, 0);
 }
 
 // One fetch, with its line; the next state.
-fn shown(cache: Cache, address: u32) -> Cache {
+fn shown(rt: &impl Print, cache: Cache, address: u32) -> Cache {
     let fetched = cache.fetch(address, 0);
-    text(b"  ");
-    number(address as u64);
-    text(b"\t");
+    text(rt, "  ");
+    number(rt, address as u64);
+    text(rt, "\t");
     let kind = fetched.kind;
-    name(kind);
+    name(rt, kind);
     fetched.cache
 }
 
-fn name(kind: Kind) {
+fn name(rt: &impl Print, kind: Kind) {
     match kind {
-        Kind::Hit => text(b"hit\n"),
-        Kind::SubsegmentMiss => text(b"subsegment miss\n"),
-        Kind::SegmentMiss => text(b"segment miss\n"),
-        Kind::Disabled => text(b"disabled\n"),
-        Kind::Refused => text(b"refused\n"),
+        Kind::Hit => text(rt, "hit\n"),
+        Kind::SubsegmentMiss => text(rt, "subsegment miss\n"),
+        Kind::SegmentMiss => text(rt, "segment miss\n"),
+        Kind::Disabled => text(rt, "disabled\n"),
+        Kind::Refused => text(rt, "refused\n"),
     }
 }

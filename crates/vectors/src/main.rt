@@ -1,35 +1,44 @@
 // Compares the library with test vectors from standard input. A line is 20 numbers of 8 upper-case
 // hex digits, parted by one space and ended by byte 10: 180 bytes. The first number is the kind.
 // The numbers of each kind are listed at the function that compares it.
+#![tactic(auto)]
+
 ghost use Rattle.std.specs.Prelude.{◌<◌, ◌≤◌};
 ghost use Rattle.io.specs.Counts.{IsPrefixLen};
 
 use cache::{Cache, Kind};
-use libc::{STDIN_FILENO, STDOUT_FILENO};
 use segments::Segment;
 use states::Mode;
+use std::io::Read;
 
 // Counts are held by the kind's number: 0 for lines of no kind, 8 for all lines.
-fn main() {
+fn main(rt: HostRuntime) {
     let mut vectors = [0u64; 9];
     let mut differ = [0u64; 9];
-    compare_all(&mut vectors, &mut differ);
-    report(&vectors, &differ);
+    compare_all(&rt, &mut vectors, &mut differ);
+    report(&rt, &vectors, &differ);
 }
 
 // Compares line by line. A proved loop has to end, and nothing says that the input does, so the
 // loop has a last turn that no run reaches.
-fn compare_all(vectors: &mut [u64], differ: &mut [u64]) {
+fn compare_all(rt: &(impl Print + Input), vectors: &mut [u64], differ: &mut [u64]) {
+    let mut input = rt.reader();
     let mut line: u64 = 1;
-    while line < u64::MAX && compare_line(line, vectors, differ) {
+    while line < u64::MAX && compare_line(rt, &mut input, line, vectors, differ) {
         line += 1;
     }
 }
 
 // Reads and compares one line; false where the input has ended.
-fn compare_line(line: u64, vectors: &mut [u64], differ: &mut [u64]) -> bool {
+fn compare_line(
+    rt: &impl Print,
+    input: &mut impl Read,
+    line: u64,
+    vectors: &mut [u64],
+    differ: &mut [u64],
+) -> bool {
     let mut bytes = [0u8; 180];
-    let got = io::read_full(STDIN_FILENO, &mut bytes);
+    let got = read_full(input, &mut bytes);
     if got == 0 {
         return false;
     }
@@ -41,11 +50,26 @@ fn compare_line(line: u64, vectors: &mut [u64], differ: &mut [u64]) -> bool {
         return true;
     }
     if at(differ, 8) < 20 {
-        show_difference(line, kind);
+        show_difference(rt, line, kind);
     }
     count(differ, kind);
     count(differ, 8);
     true
+}
+
+// Reads until the buffer is full, the input ends or a read fails, and gives how many bytes it put
+// at the buffer's start.
+fn read_full(input: &mut impl Read, buffer: &mut [u8]) -> usize
+    ensures { IsPrefixLen result buffer.new }
+{
+    let mut done = 0;
+    while done < buffer.len() {
+        match input.read(&mut buffer[done..]) {
+            Ok(0) | Err(_) => break,
+            Ok(n) => done += n,
+        }
+    }
+    done
 }
 
 // Adds 1 to a count.
@@ -322,58 +346,59 @@ fn is_placed(b: u8, i: usize) -> bool {
     }
 }
 
-fn text(bytes: &[u8]) {
-    io::write_all(STDOUT_FILENO, bytes);
+// What cannot be written is let go.
+fn text(rt: &impl Print, text: &str) {
+    let _ = rt.print(text);
 }
 
-fn decimal(n: u64) {
-    io::print_decimal(STDOUT_FILENO, n);
+fn decimal(rt: &impl Print, n: u64) {
+    let _ = rt.print(n);
 }
 
 // A kind's name.
-fn name(kind: usize) {
+fn name(rt: &impl Print, kind: usize) {
     match kind {
-        1 => text(b"field read"),
-        2 => text(b"field write"),
-        3 => text(b"cycles"),
-        4 => text(b"MOVE states"),
-        5 => text(b"fetch"),
-        6 => text(b"image"),
-        7 => text(b"changed"),
-        8 => text(b"all"),
-        _ => text(b"no vector"),
+        1 => text(rt, "field read"),
+        2 => text(rt, "field write"),
+        3 => text(rt, "cycles"),
+        4 => text(rt, "MOVE states"),
+        5 => text(rt, "fetch"),
+        6 => text(rt, "image"),
+        7 => text(rt, "changed"),
+        8 => text(rt, "all"),
+        _ => text(rt, "no vector"),
     }
 }
 
 // The line of a difference.
-fn show_difference(line: u64, kind: usize) {
-    text(b"differs at line ");
-    decimal(line);
-    text(b": ");
-    name(kind);
-    text(b"\n");
+fn show_difference(rt: &impl Print, line: u64, kind: usize) {
+    text(rt, "differs at line ");
+    decimal(rt, line);
+    text(rt, ": ");
+    name(rt, kind);
+    text(rt, "\n");
 }
 
 // A line for each kind, and for lines of none where there are any; then one for all.
-fn report(vectors: &[u64], differ: &[u64]) {
-    report_kind(1, vectors, differ);
-    report_kind(2, vectors, differ);
-    report_kind(3, vectors, differ);
-    report_kind(4, vectors, differ);
-    report_kind(5, vectors, differ);
-    report_kind(6, vectors, differ);
-    report_kind(7, vectors, differ);
+fn report(rt: &impl Print, vectors: &[u64], differ: &[u64]) {
+    report_kind(rt, 1, vectors, differ);
+    report_kind(rt, 2, vectors, differ);
+    report_kind(rt, 3, vectors, differ);
+    report_kind(rt, 4, vectors, differ);
+    report_kind(rt, 5, vectors, differ);
+    report_kind(rt, 6, vectors, differ);
+    report_kind(rt, 7, vectors, differ);
     if 0 < at(vectors, 0) {
-        report_kind(0, vectors, differ);
+        report_kind(rt, 0, vectors, differ);
     }
-    report_kind(8, vectors, differ);
+    report_kind(rt, 8, vectors, differ);
 }
 
-fn report_kind(kind: usize, vectors: &[u64], differ: &[u64]) {
-    name(kind);
-    text(b": ");
-    decimal(at(vectors, kind));
-    text(b" vectors, ");
-    decimal(at(differ, kind));
-    text(b" differ\n");
+fn report_kind(rt: &impl Print, kind: usize, vectors: &[u64], differ: &[u64]) {
+    name(rt, kind);
+    text(rt, ": ");
+    decimal(rt, at(vectors, kind));
+    text(rt, " vectors, ");
+    decimal(rt, at(differ, kind));
+    text(rt, " differ\n");
 }
