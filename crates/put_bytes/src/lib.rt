@@ -2,6 +2,7 @@
 // function answers the index after them, or the index given where they do not fit, and then nothing
 // is written.
 #![tactic(auto)]
+
 ghost use Rattle.std.specs.Prelude.{◌≡◌, [], ◌∷◌, ◌++◌, ◌+◌, ◌≤◌, ◌<◌, leb, length};
 ghost use Rattle.listing.specs.Listing.{decimal, put, put_if, index_after};
 

@@ -1,6 +1,7 @@
 // Lines of numbers, put into a lent buffer where they fit whole: `numbers` answers the index after
 // the line, or the index given where it does not fit, and then nothing is written.
 #![tactic(auto)]
+
 ghost use Rattle.std.specs.Prelude.{◌≡◌, ◌+◌, ◌≤◌, ◌<◌, leb, length};
 ghost use Rattle.listing.specs.Listing.{decimal, numbers_line, line_length, put, put_if, index_after};
 

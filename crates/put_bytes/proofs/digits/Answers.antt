@@ -13,12 +13,12 @@ room c =
 
 pub returns-then-has_room-clause-value : goal.returns-then-has_room-clause-value
 returns-then-has_room-clause-value c =
-    let d = c.decimal-k.ensures in(number-placed _ _ _ _ _ c.ranges.n.fits d.len _ _ d.digits c.copy.ensures
+    let d = c.decimal-k.ensures in (number-placed _ _ _ _ _ c.ranges.n.fits d.len _ _ d.digits c.copy.ensures
     (room c)).0
 
 pub returns-then-has_room-clause-out_after : goal.returns-then-has_room-clause-out_after
 returns-then-has_room-clause-out_after c =
-    let d = c.decimal-k.ensures in(number-placed _ _ _ _ _ c.ranges.n.fits d.len _ _ d.digits c.copy.ensures
+    let d = c.decimal-k.ensures in (number-placed _ _ _ _ _ c.ranges.n.fits d.len _ _ d.digits c.copy.ensures
     (room c)).1
 
 pub returns-clause-value : goal.returns-clause-value

@@ -1,5 +1,4 @@
 -- `put_lines::line` meets its contract: each turn puts one number, and the last one ends the line. Assumes nothing.
-use Prim.Native.Nat.{◌-◌}
 use native.Mathlib.Omega.{arith}
 use Rattle.listing.proofs.LoopLaws.{lined-step, lined-end}
 use Rattle.put_lines.proofs.line.Goals as goal

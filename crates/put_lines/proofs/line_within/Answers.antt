@@ -1,6 +1,5 @@
 -- `put_lines::line_within` meets its contract. The loop keeps whether the numbers left fit into what is left. Assumes nothing.
 use mathlib.Core.Path.{sym, ◌∙◌}
-use Prim.Native.Nat.{◌-◌}
 use native.Mathlib.Omega.{arith}
 use Rattle.listing.proofs.LoopLaws.{within_step, within-stop, within-done}
 use Rattle.put_lines.proofs.line_within.Goals as goal
@@ -11,11 +10,10 @@ returns-then-left-k c =
     sym (c.loop-i.invariant.0 ∙ within-stop _ _ _ p.result c.loop-i-test.true p.ensures c.if-left-k.true)
 
 pub loop-i-preserved : goal.loop-i-preserved
-loop-i-preserved c =
-    (
-      c.loop-i.invariant.0 ∙ within_step _ _ _ _ c.loop-i-test.true c.places-k.ensures c.if-left-k.false,
-      omega arith,
-    )
+loop-i-preserved c = (
+  c.loop-i.invariant.0 ∙ within_step _ _ _ _ c.loop-i-test.true c.places-k.ensures c.if-left-k.false,
+  omega arith,
+)
 
 pub returns : goal.returns
 returns c =
