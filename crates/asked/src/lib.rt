@@ -1,5 +1,6 @@
 // What a run of points may not be asked for: the tests of 9 and 24. No function has a requires.
 #![tactic(auto)]
+
 ghost use Rattle.std.specs.Prelude.{◌≡◌};
 ghost use Rattle.run.specs.Lines.{bad_shape, ends_past};
 

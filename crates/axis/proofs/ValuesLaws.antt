@@ -22,7 +22,8 @@ use Rattle.tabs.proofs.FieldsLaws.{fields_from-cons, fields_from-past, fields_fr
 use Rattle.values.proofs.BlockLaws.{Held, bad_from}
 
 -- At the third field these are the values of an axis line, against the greatest of its name
-pub bad_from-third_at : (line : List ℕ) (from name most : ℕ) → from ≡ third_at line → name ≡ name_of (fields_of line) → most + 1 ≡ limit name
+pub bad_from-third_at : (line : List ℕ) (from name most : ℕ) → from ≡ third_at line → name ≡ name_of (fields_of line)
+    → most + 1 ≡ limit name
     → bad_from line from most ≡ bad_values (axis_of (fields_of line))
 unfolding values_of
 bad_from-third_at line from name most at named greatest =
@@ -57,4 +58,5 @@ module _ {line : List ℕ} {from most : ℕ} {b : Block} (at : Held line from mo
       → too_many axes (axis_of (fields_of line)) ≡ (leb most_axes axes || leb b.behind (length line))
   unfolding values_of
   too_many-third_at axes e =
-      rw (axis_length-listed (axis_of (fields_of line)), ← fields_from-third_at line, ← e) (ap (λ (t : Bool). leb most_axes axes || t) block-left)
+      rw (axis_length-listed (axis_of (fields_of line)), ← fields_from-third_at line, ← e)
+      (ap (λ (t : Bool). leb most_axes axes || t) block-left)

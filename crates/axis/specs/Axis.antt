@@ -20,7 +20,8 @@ axis_of fields = record { name = name_of fields; values = values_of fields }
 
 -- 20: another form, an empty name, a value that is no number
 unfoldable pub bad_form : List (List ℕ) → Bool
-bad_form (word ∷ name ∷ v ∷ vs) = not (same word axis_word) || same name [] || any no_number (v ∷ vs)
+bad_form (word ∷ name ∷ v ∷ vs) =
+    not (same word axis_word) || same name [] || any no_number (v ∷ vs)
 bad_form [] = true
 bad_form (word ∷ []) = true
 bad_form (word ∷ name ∷ []) = true

@@ -80,7 +80,8 @@ module _ (words draw axes point : ℕ) (t line : List ℕ) where
   could-unasked e = rw e
 
   -- the table has no such point
-  could-past : (no_memory words || leb drawing_count draw) ≡ false → points_in axes t ≤ point → false ≡ could_be words draw axes t point line
+  could-past : (no_memory words || leb drawing_count draw) ≡ false → points_in axes t ≤ point
+      → false ≡ could_be words draw axes t point line
   unfolding could_be
   could-past e h = rw (e, le-leb (points_in axes t) point h)
 
@@ -106,7 +107,8 @@ module _ (words draw axes point : ℕ) (t line : List ℕ) where
     could-done a {vs} ev er = er ∙ go (leb (points_in axes t) point) refl
       where
         go : (b : Bool) → leb (points_in axes t) point ≡ b
-            → same (ended line) (line_of point (with_changed (changed_in line) (ran_for words draw vs))) ≡ could_be words draw axes t point line
+            → same (ended line) (line_of point (with_changed (changed_in line) (ran_for words draw vs)))
+            ≡ could_be words draw axes t point line
         go true e = absurd (omega (arith, a, (answer-refused axes point t out (omega arith) (leb-true _ _ e)).0))
         go false e =
             let h = leb-false _ _ e in

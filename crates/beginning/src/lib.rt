@@ -1,6 +1,7 @@
 // Whether a line can be the listing's line of a point, seen without drawing: everything but
 // `changed` is as it must be. The public function has no requires.
 #![tactic(auto)]
+
 ghost use Rattle.std.specs.Prelude.{◌≡◌, ◌≤◌, length, drop};
 ghost use Rattle.text.specs.Text.{same};
 ghost use Rattle.tabs.specs.Fields.{third_at};

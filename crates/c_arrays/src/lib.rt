@@ -1,6 +1,7 @@
 // What the calls for C share: the answer to bad arguments, flags as numbers, results in an output
 // array, and the settings as thirteen numbers of an array.
 #![tactic(auto)]
+
 ghost use Rattle.std.specs.Prelude.{◌≡◌, ◌≤◌, get_or};
 ghost use Rattle.std.proofs.lemmas.List.Edits.{sets};
 ghost use Rattle.settings.specs.Settings.{settings_of};

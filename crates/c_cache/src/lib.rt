@@ -1,5 +1,6 @@
 // The instruction cache for C: a fetch on lent arrays.
 #![tactic(auto)]
+
 ghost use Rattle.std.specs.Prelude.{◌≡◌};
 ghost use Rattle.c_cache.specs.Fetch.{FetchCall, kind_number, stays, state_after};
 

@@ -1,5 +1,6 @@
 // DRAV for C, on numbers and lent arrays.
 #![tactic(auto)]
+
 ghost use Rattle.c_drav.specs.Calls.{DravCall};
 
 use c_arrays::BAD_CALL;

@@ -19,7 +19,8 @@ draw_result_count = 7
 
 -- the arguments are bad, or there is no room for the results
 abbrev pub bad_draw : ℕ → List ℕ → List ℕ → Bool
-bad_draw operation s out = short draw_result_count out || (bad_operation operation || bad_settings s)
+bad_draw operation s out = short draw_result_count out
+    || (bad_operation operation || bad_settings s)
 
 -- the new place, the pixels visited by this call, V, the request, and the registers
 abbrev pub draw_results : Outcome → List ℕ

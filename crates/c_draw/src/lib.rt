@@ -1,5 +1,6 @@
 // FILL and PIXBLT for C: `drawing::draw` and `drawing::outcome_for` on numbers and lent arrays.
 #![tactic(auto)]
+
 ghost use Rattle.std.specs.Prelude.{◌≡◌};
 ghost use Rattle.std.proofs.lemmas.List.Edits.{sets};
 ghost use Rattle.c_draw.specs.Draw.{draw_results, OutcomeCall, DrawCall};

@@ -1,5 +1,6 @@
 // Fields for C: moves, memory cycles and states, on numbers and lent arrays.
 #![tactic(auto)]
+
 ghost use Rattle.std.specs.Prelude.{◌≡◌};
 ghost use Rattle.c_fields.specs.Calls.{FieldReadCall, FieldWriteCall, FieldCyclesCall};
 ghost use Rattle.c_fields.specs.Calls.{MoveStatesCall};

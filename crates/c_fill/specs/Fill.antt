@@ -15,7 +15,8 @@ fill_result_count = 4
 
 -- the arguments are bad, or there is no room for the results
 abbrev pub bad_fill : ℕ → List ℕ → List ℕ → Bool
-bad_fill operation s out = short fill_result_count out || (bad_operation operation || bad_settings s)
+bad_fill operation s out = short fill_result_count out
+    || (bad_operation operation || bad_settings s)
 
 -- setup, transfer, adjustment, and setup and transfer less the adjustment
 abbrev pub fill_results : Time → List ℕ

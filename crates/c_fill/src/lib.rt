@@ -1,5 +1,6 @@
 // The time of a FILL for C: `fill_timing::fill_states` on numbers and lent arrays.
 #![tactic(auto)]
+
 ghost use Rattle.std.proofs.lemmas.List.Edits.{sets};
 ghost use Rattle.std.specs.Prelude.{◌≡◌};
 ghost use Rattle.c_fill.specs.Fill.{fill_results, FillStatesCall};

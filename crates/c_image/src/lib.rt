@@ -1,5 +1,6 @@
 // Images for C: the image of a seed, and changed bits, on numbers and lent arrays.
 #![tactic(auto)]
+
 ghost use Rattle.c_image.specs.Calls.{FillImageCall, ChangedCall};
 
 use c_arrays::BAD_CALL;

@@ -1,5 +1,6 @@
 // What PIXT and DRAV for C share: bad arguments, and the four results in an array.
 #![tactic(auto)]
+
 ghost use Rattle.std.specs.Prelude.{◌≡◌, ◌||◌, ltb};
 ghost use Rattle.std.proofs.lemmas.List.Edits.{sets};
 ghost use Rattle.c_arrays.specs.Settings.{bad_settings};

@@ -1,5 +1,6 @@
 // PIXT memory to register for C, on numbers and lent arrays.
 #![tactic(auto)]
+
 ghost use Rattle.c_pixt_from.specs.Calls.{PixtFromLinearCall, PixtFromXYCall};
 
 use c_arrays::BAD_CALL;

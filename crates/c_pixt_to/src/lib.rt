@@ -1,5 +1,6 @@
 // PIXT register to memory for C, on numbers and lent arrays.
 #![tactic(auto)]
+
 ghost use Rattle.c_pixt_to.specs.Calls.{PixtToLinearCall, PixtToXYCall};
 
 use c_arrays::BAD_CALL;

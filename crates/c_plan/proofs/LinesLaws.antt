@@ -24,10 +24,6 @@ other true b c h = absurd (h refl)
 other false b c h = refl
 
 module _ (table : List ℕ) (axes draw first count : ℕ) (image memory out bytes : List ℕ) where
-  -- there is no place for the number of bytes
-  pub ends-bad : short 1 bytes ≡ true → LinesCall table axes draw first count image memory out bytes bad_call image memory out bytes
-  ends-bad e = record { answers = rw e; image-is = rw e; memory-is = rw e; out-is = rw e; bytes-is = rw e }
-
   -- there is one, and the run has ended so
   module _ {r : Listed} {image' memory' out' : List ℕ} (g : short 1 bytes ≡ false)
       (l : run.Ends draw axes table first count image memory out r image' memory' out') where

@@ -39,7 +39,8 @@ bad_lines draw count image memory out bytes =
 pub record LinesCall (table : List ℕ) (axes draw first count : ℕ) (image memory out bytes : List ℕ)
     (answer : ℕ) (image' memory' out' bytes' : List ℕ) : Type 0 where
   pub answers :
-      let call = listed_of (length image) (length memory) (length out) draw axes table first count in
+      let call =
+      listed_of (length image) (length memory) (length out) draw axes table first count in
       answer ≡ answered (bad_lines draw count image memory out bytes) call.answer
   pub image-is :
       let after = image_after image (length memory) (length out) draw axes table first count in
@@ -51,5 +52,6 @@ pub record LinesCall (table : List ℕ) (axes draw first count : ℕ) (image mem
       let text = written (length image) (length memory) (length out) draw axes table first count in
       out' ≡ cond (bad_lines draw count image memory out bytes) out (put 0 text out)
   pub bytes-is :
-      let call = listed_of (length image) (length memory) (length out) draw axes table first count in
+      let call =
+      listed_of (length image) (length memory) (length out) draw axes table first count in
       bytes' ≡ stored_out (bad_lines draw count image memory out bytes) bytes (call.length ∷ [])

@@ -1,6 +1,7 @@
 // Plans for C: a plan's text read into a table, its points, and the lines of its listing, on
 // numbers and lent arrays.
 #![tactic(auto)]
+
 ghost use Rattle.std.specs.Prelude.{◌≡◌, ◌≤◌, length};
 ghost use Rattle.std.proofs.lemmas.List.Edits.{sets};
 ghost use Rattle.c_plan.specs.Plan.{plan_result_count, plan_results, PlanReadCall, LinesCall};

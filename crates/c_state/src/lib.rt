@@ -1,5 +1,6 @@
 // A cache state for C: twelve numbers of a lent array. No public function has a requires.
 #![tactic(auto)]
+
 ghost use Rattle.std.specs.Prelude.{◌≡◌, get_or};
 ghost use Rattle.std.proofs.lemmas.List.Edits.{sets};
 ghost use Rattle.c_state.specs.State.{segment_of, order_entry, cache_of, flags_number, numbers_of};

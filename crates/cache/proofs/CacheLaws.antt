@@ -102,7 +102,8 @@ module _ (c : Cache) (start sub i : ℕ) (e : i ≡ first (matches start) c.segm
   unfolding lookup
   lookup-hit l t q = rw (q, f, lt-ltb i segment_count l, ← e, t, set-get_or c.segments i no_segment)
 
-  pub lookup-part : i < segment_count → get_or (segment_at c i).present sub false ≡ false → r ≡ with_segment c i (with_flag sub (segment_at c i))
+  pub lookup-part : i < segment_count → get_or (segment_at c i).present sub false ≡ false
+      → r ≡ with_segment c i (with_flag sub (segment_at c i))
       → record { kind = SubsegmentMiss; cache = r } ≡ lookup c start sub
   unfolding lookup
   lookup-part l t q = rw (q, f, lt-ltb i segment_count l, ← e, t)

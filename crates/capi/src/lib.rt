@@ -3,6 +3,7 @@
 // a requires: an output array that is too short, a mode or an operation that is none, or a number
 // that is too large for its place is answered by 9.
 #![tactic(auto)]
+
 mod drawings;
 mod fields;
 mod images;

@@ -29,7 +29,8 @@ text_line-cons t (u ∷ ts) h =
 text_line-drop : (ts : List (List ℕ)) (i : ℕ) → suc i < length ts
     → text_line (drop i ts) ≡ ended (get_or ts i []) tab ++ text_line (drop (i + 1) ts)
 text_line-drop ts i h =
-    rw (drop-cons ts i [] (omega arith), add-one i) (text_line-cons (get_or ts i []) (drop (suc i) ts) (omega (arith, length-drop (suc i) ts)))
+    rw (drop-cons ts i [] (omega arith), add-one i)
+    (text_line-cons (get_or ts i []) (drop (suc i) ts) (omega (arith, length-drop (suc i) ts)))
 
 text_line-last : (ts : List (List ℕ)) (i : ℕ) → suc i ≡ length ts → text_line (drop i ts) ≡ ended (get_or ts i []) line_end
 text_line-last ts i h = rw (drop-cons ts i [] (omega arith), drop_of_length-le ts {i = suc i} (omega arith))
@@ -54,10 +55,6 @@ get_or-held_texts (c ∷ cs) (n ∷ ns) (suc i) h l = get_or-held_texts cs ns i 
 -- A text put where it fits: a number, a coordinate below 0 and another one
 
 module _ (at n end : ℕ) (out : List ℕ) (c : Bool) (room : at + length (ended (held_text c n) end) ≤ length out) (r : ℕ) (o : List ℕ) where
-  pub placed-number : c ≡ false → Placed at (ended (decimal n) end) out r o
-      → (r ≡ at + length (ended (held_text c n) end)) × (o ≡ put at (ended (held_text c n) end) out)
-  placed-number e p = rw e (fitted at _ out r o (rw e at room) p)
-
   pub placed-negative : c ≡ true → n < 2 ^ 15 → (i : ℕ) (s : List ℕ) → Placed at (minus ∷ []) out i s
       → Placed i (ended (decimal (2 ^ 15 - n)) end) s r o
       → (r ≡ at + length (ended (held_text c n) end)) × (o ≡ put at (ended (held_text c n) end) out)
@@ -76,9 +73,6 @@ pub record Texted (cs : List Bool) (ns : List ℕ) (out₀ : List ℕ) (i to : �
   pub size : length out ≡ length out₀
   pub ends : to + length (text_line (drop i (held_texts cs ns))) ≡ length (text_line (held_texts cs ns))
   pub same : put to (text_line (drop i (held_texts cs ns))) out ≡ put 0 (text_line (held_texts cs ns)) out₀
-
-pub texted-start : (cs : List Bool) (ns out₀ : List ℕ) → Texted cs ns out₀ 0 0 out₀
-texted-start cs ns out₀ = record { size = refl; ends = omega arith; same = refl }
 
 module _ (cs : List Bool) (ns out₀ : List ℕ) (n : length cs ≡ length ns) (fit : length (text_line (held_texts cs ns)) ≤ length out₀)
     (i to : ℕ) (out : List ℕ) (l : Texted cs ns out₀ i to out) where

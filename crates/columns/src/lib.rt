@@ -2,6 +2,7 @@
 // into a lent buffer where it fits whole: a public function answers the index after it, or the
 // index given where it does not fit, and then nothing is written.
 #![tactic(auto)]
+
 ghost use Rattle.std.specs.Prelude.{◌≡◌, cond, [], ◌∷◌, ◌++◌, map, ◌+◌, ◌≤◌, length, get_or};
 ghost use Rattle.control.specs.Control.{transparency, windowing, right_to_left, bottom_to_top};
 ghost use Rattle.control.specs.Control.{processing, disabled};

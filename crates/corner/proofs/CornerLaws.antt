@@ -7,10 +7,6 @@ use Rattle.walk.specs.Walk.{address_at}
 use Rattle.walk.proofs.Arithmetic.{mod-pow-mod}
 use Rattle.corner.specs.Corner.{walked, corner_of, from_corner, chosen_index}
 
--- the number that a distance added to wraps back to 0
-pub walked-sub : (r d : ℕ) → r < 2 ^ 32 → d < 2 ^ 32 → (r + d) % 2 ^ 32 ≡ 0 → r ≡ walked true d
-walked-sub r d hr hd e = omega arith
-
 -- rising and falling by one distance, n times, makes whole turns of 2^32
 pub walked-turns : (n x : ℕ) → n * x + n * walked true x ≡ n * ((x + walked true x) / 2 ^ 32) * 2 ^ 32
 walked-turns n x =

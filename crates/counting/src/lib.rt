@@ -1,6 +1,7 @@
 // How many points the axes of a lent table give (`Rattle.points.specs.Table`). No public function
 // has a requires.
 #![tactic(auto)]
+
 ghost use Rattle.std.specs.Prelude.{◌≡◌, leb};
 ghost use Rattle.lists.specs.Search.{any};
 ghost use Rattle.names.specs.Names.{limit};

@@ -1,6 +1,7 @@
 // A point's number decoded to its experiment, from a lent table of axes
 // (`Rattle.points.specs.Table`). No public function has a requires.
 #![tactic(auto)]
+
 ghost use Rattle.std.specs.Prelude.{◌≡◌, true, ◌+◌, ◌<◌, ◌≤◌, length};
 ghost use Rattle.names.specs.Names.{name_count};
 ghost use Rattle.points.specs.Axes.{count};

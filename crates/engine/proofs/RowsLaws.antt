@@ -44,13 +44,10 @@ module _ {m₀ : List ℕ} {d : Drawing} {k n : ℕ} where
 
   module _ {m : List ℕ} {from to i count : ℕ} (inv : Rows m₀ d k n m from to i) (more : i < n)
       (e : count ≡ min d.cols (n - i)) where
-    pub rows-some : 0 < count
-    rows-some = omega (arith, e, inv.pos)
-
     rows_row : (k + i) % d.cols + count ≤ d.cols
     rows_row = omega (arith, e, (inv.at more).first)
 
-    pub rows_end : i + count ≤ n
+    rows_end : i + count ≤ n
     rows_end = omega (arith, e)
 
     -- the row drawn is its pixels visited

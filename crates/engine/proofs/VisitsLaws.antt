@@ -13,12 +13,6 @@ use Rattle.row.specs.Row.{color_at, drawn_at}
 use Rattle.row.proofs.SourceLaws.{source-color}
 use Rattle.row.proofs.DrawnLaws.{length-drawn_at, memory-drawn_at}
 
--- where some pixel is visited, there is a column, and the pixels visited are the drawing's
-pub visited-some : (d : Drawing) (k b : ℕ) {c : ℕ} → c ≡ visited_from d k b → (c ≡ 0 → ⊥) → (0 < d.cols) × (k + c ≤ pixels d)
-visited-some d k b {c} e n =
-    let some : d.cols ≡ 0 → ⊥ = λ z. n (e ∙ omega (arith, ap (λ (x : ℕ). x * d.rows) z, zero-mul d.rows)) in
-    (pos_of_ne-zero some, omega (arith, e, n))
-
 module _ (d : Drawing) (k : ℕ) where
   pub visits-none : (m : List ℕ) → visits d k 0 m ≡ m
   unfolding visits

@@ -1,6 +1,7 @@
 // The first axis of a lent table (`Rattle.points.specs.Table`): its length, and where its numbers
 // end. No public function has a requires.
 #![tactic(auto)]
+
 ghost use Rattle.std.specs.Prelude.{◌≡◌, min, length};
 ghost use Rattle.points.specs.Table.{length_in, size_in};
 

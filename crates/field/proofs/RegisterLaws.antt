@@ -44,7 +44,8 @@ module _ (m : List ℕ) (a n : ℕ) (p : 0 < n) (h : n ≤ 32) where
 
   -- by the code's test, on the top bit as it finds it
   module _ (t : ℕ) (top : t ≡ bit_at m (a + n - 1)) where
-    pub register-taken : (signed : Bool) → (signed && eqb t 1) ≡ true → register m a n signed ≡ bits_number (bit_at m) a n + (2 ^ 32 - 2 ^ n)
+    pub register-taken : (signed : Bool) → (signed && eqb t 1) ≡ true
+        → register m a n signed ≡ bits_number (bit_at m) a n + (2 ^ 32 - 2 ^ n)
     register-taken true e = register-sign (sym top ∙ eqb-true t 1 e)
     register-taken false e = cc
 

@@ -10,4 +10,5 @@ ends_outside words a n = leb (16 * words) (a + n - 1)
 -- a field call checks 10, 18, 17 in that order; 0 where none applies
 unfoldable pub field_refusal : ℕ → ℕ → ℕ → ℕ
 field_refusal words a size =
-    cond (no_memory words) 10 (cond (bad_size size) 18 (cond (ends_outside words a (meant size)) 17 0))
+    cond (no_memory words) 10
+    (cond (bad_size size) 18 (cond (ends_outside words a (meant size)) 17 0))

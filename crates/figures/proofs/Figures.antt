@@ -25,8 +25,10 @@ use Rattle.points.specs.Points.{indices}
 use Rattle.figures.specs.Figures.{Figures}
 
 pub figures : Figures
-unfolding bit_of bit_at bits_number meant field_refusal register field_read case_of stepped any first any_pair bad_state latest lookup fetched
-    pixel_operations processed pixel_of result pixel_after with_pixel word_after xy_address bad_xy_pitch common clipped address_at address_of
+unfolding bit_of bit_at bits_number meant field_refusal register field_read case_of stepped any first any_pair bad_state latest lookup
+    fetched
+    pixel_operations processed pixel_of result pixel_after with_pixel word_after xy_address bad_xy_pitch common clipped address_at
+    address_of
     reaches leaves_memory lowest xy_destination drav_of clipped_array v_after v_under dest_start src_start chosen_walk drawing_of refusal_of
     drawing.refusal outcome_at outcome axis_length count indices
 figures =

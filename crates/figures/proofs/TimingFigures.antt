@@ -14,7 +14,8 @@ use Rattle.fill_timing.specs.FillTiming.{adjust_of, fill_of, fill_time, fill_sta
 use Rattle.figures.specs.TimingFigures.{TimingFigures}
 
 pub timing-figures : TimingFigures
-unfolding alignment_of time_of xy_address bad_xy_pitch common clipped v_under address_at address_of reaches leaves_memory lowest clipped_array
+unfolding alignment_of time_of xy_address bad_xy_pitch common clipped v_under address_at address_of reaches leaves_memory lowest
+    clipped_array
     v_after dest_start src_start chosen_walk drawing_of refusal_of refusal outcome_at outcome adjust_of fill_of fill_time fill_states
 timing-figures =
     record {

@@ -20,7 +20,8 @@ example_time control pmask = (fill_states FillXY (filling_with control pmask) 11
 pub record TimingFigures : Type 0 where
   -- table 13-5: FILL L 4; FILL XY 6, 9, 16, 12, 20; the note: add 3
   pub setup-l : setup_l ≡ 4
-  pub setup-xy : setup_xy Off ∷ setup_xy Fits ∷ setup_xy Start ∷ setup_xy Dimension ∷ setup_xy Both ∷ []
+  pub setup-xy :
+      setup_xy Off ∷ setup_xy Fits ∷ setup_xy Start ∷ setup_xy Dimension ∷ setup_xy Both ∷ []
       ≡ 6 ∷ 9 ∷ 16 ∷ 12 ∷ 20 ∷ []
   pub setup-note : uncached true ≡ 3
   -- table 13-6, Short (N=1): (1+G)L+2, (2+G)L+2, (2+G)L+1, (2+G)L+1
@@ -52,7 +53,8 @@ pub record TimingFigures : Type 0 where
       ≡ (Replace ∷ []) ++ tabulate 16 (λ i. Boolean)
       ++ (Adding ∷ Adding ∷ Subs ∷ Adding ∷ Adding ∷ [])
   -- the adjustment of a row: none for A, 2 for B and C, 4 for D
-  pub edges : edge_states A ∷ edge_states B ∷ edge_states C ∷ edge_states D ∷ [] ≡ 0 ∷ 2 ∷ 2 ∷ 4 ∷ []
+  pub edges : edge_states A ∷ edge_states B ∷ edge_states C ∷ edge_states D ∷ []
+      ≡ 0 ∷ 2 ∷ 2 ∷ 4 ∷ []
   -- example 13-1: W=3, T=0, PP=0, no plane masking: 16 + [3 + (14x2)]15 + 2 = 483
   pub example-1 : example_time 0x00C0 0
       ≡ record { setup = 16; transfer = 467; adjustment = 0; states = 483 }

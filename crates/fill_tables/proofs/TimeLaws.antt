@@ -26,7 +26,7 @@ setup_xy-le Start = omega arith
 setup_xy-le Dimension = omega arith
 setup_xy-le Both = omega arith
 
-pub cached-le : (xy : Bool) (a : Adjust) → cond xy (setup_xy a) setup_l ≤ 20
+cached-le : (xy : Bool) (a : Adjust) → cond xy (setup_xy a) setup_l ≤ 20
 cached-le true a = setup_xy-le a
 cached-le false a = omega arith
 
@@ -45,7 +45,7 @@ setup-some false a = omega arith
 pub setup_time-some : (f : Fill) → 0 < setup_time f
 setup_time-some f = omega (arith, setup-some f.xy f.adjust)
 
-pub setup_time-le : (f : Fill) → setup_time f ≤ 23
+setup_time-le : (f : Fill) → setup_time f ≤ 23
 setup_time-le f = omega (arith, cached-le f.xy f.adjust, uncached-le f.disabled)
 
 -- an entry for an alignment: at most 2 states a row over the adjustment
@@ -93,12 +93,6 @@ masked-ge Boolean = omega arith
 masked-ge Adding = omega arith
 masked-ge Subs = omega arith
 
-pub edge_states-le : (a : Alignment) → edge_states a ≤ 4
-edge_states-le A = omega arith
-edge_states-le B = omega arith
-edge_states-le C = omega arith
-edge_states-le D = omega arith
-
 -- ---- the words of a row, and its alignment
 words_of-le : (start bits : ℕ) → words_of start bits ≤ (bits + 30) / 16
 words_of-le start bits = omega arith
@@ -124,7 +118,7 @@ module _ (start bits : ℕ) (P : Alignment → Type 0) where
       go false false p q = d (eqb-false _ _ p) (eqb-false _ _ q)
 
 -- ---- products
-pub product_le : (x y : ℕ) {a b : ℕ} → x ≤ a → y ≤ b → x * y ≤ a * b
+product_le : (x y : ℕ) {a b : ℕ} → x ≤ a → y ≤ b → x * y ≤ a * b
 product_le x y {a} {b} h k = le_trans (mul-le-mul_right y h) (mul-le-mul_left a k)
 
 -- the steps of the transfer time fit

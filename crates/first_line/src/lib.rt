@@ -2,6 +2,7 @@
 // plan. It is put into a lent buffer where it fits whole: each function answers the index after it,
 // or the index given where it does not fit, and then nothing is written.
 #![tactic(auto)]
+
 ghost use Rattle.std.specs.Prelude.{◌≡◌, length};
 ghost use Rattle.listing.specs.Listing.{put_if, index_after, heading, refused_line};
 ghost use Rattle.first_line.specs.Names.{names_line};

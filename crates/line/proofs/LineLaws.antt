@@ -22,7 +22,8 @@ memory_of-is_pair (word ∷ []) = refl
 memory_of-is_pair (word ∷ size ∷ []) = refl
 memory_of-is_pair (word ∷ size ∷ f ∷ fs) = rw (ne_eqb (suc (suc (suc (length fs)))) 2 (λ e. omega arith))
 
-pub draw_of-is_pair : (fields : List (List ℕ)) → draw_of fields ≡ cond (is_pair draw_word fields) (drawing_number (get_or fields 1 [])) drawing_count
+pub draw_of-is_pair : (fields : List (List ℕ))
+    → draw_of fields ≡ cond (is_pair draw_word fields) (drawing_number (get_or fields 1 [])) drawing_count
 unfolding draw_of
 draw_of-is_pair [] = refl
 draw_of-is_pair (word ∷ []) = refl

@@ -46,7 +46,7 @@ fewest-le zero (suc (suc r)) n h f = absurd (omega (arith, f.2 (omega arith), po
 fewest-le (suc k) (suc (suc r)) n h f =
     omega (arith, fewest-le k (suc r) (n / 10) (omega (arith, pow-suc 10 (suc k))) (fewest-tenth r n f))
 
-pub fewest-le-most : (r n : ℕ) → n < 2 ^ 64 → IsDigitCount 10 1 n r → r ≤ most_digits
+fewest-le-most : (r n : ℕ) → n < 2 ^ 64 → IsDigitCount 10 1 n r → r ≤ most_digits
 fewest-le-most r n h f = fewest-le 19 r n (omega arith) f
 
 pub decimal-of-fewest : (r n : ℕ) → n < 2 ^ 64 → IsDigitCount 10 1 n r → decimal n ≡ io·digits 10 r n

@@ -67,9 +67,6 @@ numbers_line-last : (ns : List ℕ) (i : ℕ) → suc i ≡ length ns → number
 unfolding numbers_line
 numbers_line-last ns i h = rw (drop-cons ns i 0 (omega arith), drop_of_length-le ns {i = suc i} (omega arith))
 
-pub lined-start : (ns : List ℕ) (at : ℕ) (out₀ : List ℕ) → 0 < length ns → Lined ns at out₀ 0 at out₀
-lined-start ns at out₀ h = record { inside = h; size = refl; ends = refl; same = refl }
-
 module _ (ns : List ℕ) (at : ℕ) (out₀ : List ℕ) (fit : at + length (numbers_line ns) ≤ length out₀) (i to : ℕ) (out : List ℕ)
     (l : Lined ns at out₀ i to out) (r : ℕ) (o : List ℕ) where
   pub lined-step : suc i < length ns → Placed to (decimal (get_or ns i 0) ++ (tab ∷ [])) out r o → Lined ns at out₀ (i + 1) r o

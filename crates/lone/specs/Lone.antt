@@ -84,7 +84,8 @@ unfoldable pub xy_destination : ℕ → Settings → ℕ → Bool → Lone
 xy_destination words s xy v =
     record {
       answer =
-          lone_refusal words s (bad_xy_pitch s.dptch) (bad_window_of true s) (shown (lone_clip s xy))
+          lone_refusal words s (bad_xy_pitch s.dptch) (bad_window_of true s)
+          (shown (lone_clip s xy))
           (bad_lone_start s xy) (pixel_address s xy);
       some = shown (lone_clip s xy);
       address = pixel_address s xy;

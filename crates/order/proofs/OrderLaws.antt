@@ -23,6 +23,7 @@ unfolding any any_pair latest
 any_pair-latest k [] = refl
 any_pair-latest k (x ∷ l) = go (eqb x k) (any_pair-latest k l)
   where
-    go : (b : Bool) → any_pair eqb (latest k l) ≡ any_pair eqb l → any_pair eqb (cond b (l ++ (x ∷ [])) (x ∷ latest k l)) ≡ any_pair eqb (x ∷ l)
+    go : (b : Bool) → any_pair eqb (latest k l) ≡ any_pair eqb l
+        → any_pair eqb (cond b (l ++ (x ∷ [])) (x ∷ latest k l)) ≡ any_pair eqb (x ∷ l)
     go true e = any_pair-snoc eqb eqb_comm x l
     go false e = rw (any-latest (eqb x) k l, e)

@@ -55,7 +55,8 @@ address_of-distance w pitch step hp hs cols i = rw (zero-div cols, zero-mod cols
 
 -- of two walks of one pitch and step, the one that starts below stays below
 address_of-mono : (w w' : Walk) → w.pitch ≡ w'.pitch → w.step ≡ w'.step → (cols i : ℕ) → address_of w cols 0 ≤ address_of w' cols 0
-    → address_of w' cols 0 < 2 ^ 24 → address_of w cols i < 2 ^ 24 → address_of w' cols i < 2 ^ 24 → address_of w cols i ≤ address_of w' cols i
+    → address_of w' cols 0 < 2 ^ 24 → address_of w cols i < 2 ^ 24 → address_of w' cols i < 2 ^ 24
+    → address_of w cols i ≤ address_of w' cols i
 address_of-mono w w' hp hs cols i =
     go _ _ (distance w'.pitch w'.step cols i) _ _ (address_of-distance w w'.pitch w'.step hp hs cols i)
     (address_of-distance w' w'.pitch w'.step refl refl cols i)

@@ -38,7 +38,8 @@ module _ (pp : ℕ) (t : Bool) (p pmask a : ℕ) (fit : a % 16 + p ≤ 16) where
           let o : a + (b - a) ≡ b = omega arith in
           ⊎_elim
           (λ z. inr (record { from = q; to = q'; unmasked = z }))
-          (λ z. inl (e ∙ bit_masked pp t p _ s _ (b - a) l (mask-bit b q q' ∙ z) ∙ bit-pixel_of-bit_at p a fit (b - a) l m ∙ ap (bit_at m) o))
+          (λ z. inl
+          (e ∙ bit_masked pp t p _ s _ (b - a) l (mask-bit b q q' ∙ z) ∙ bit-pixel_of-bit_at p a fit (b - a) l m ∙ ap (bit_at m) o))
           (bit-cases (bit-lt pmask (b % 16)))
 
   -- what the unmasked bits of the pixel become depends on what they were and on the source's unmasked bits, and on nothing else

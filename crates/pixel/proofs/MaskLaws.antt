@@ -32,7 +32,8 @@ module _ (pp : ℕ) (t : Bool) (p mask s d j : ℕ) where
   bit-pixel_after = go (t && eqb r 0)
     where
       go : (u : Bool)
-          → bit_of (cond u d (bit_or (bit_and d mask) r)) j ≡ cond u (bit_of d j) (bit_or (bit_and (bit_of d j) (bit_of mask j)) (bit_of r j))
+          → bit_of (cond u d (bit_or (bit_and d mask) r)) j
+          ≡ cond u (bit_of d j) (bit_or (bit_and (bit_of d j) (bit_of mask j)) (bit_of r j))
       go true = refl
       go false = bit-or (bit_and d mask) r j ∙ ap (λ (x : ℕ). bit_or x (bit_of r j)) (bit-and d mask j)
 

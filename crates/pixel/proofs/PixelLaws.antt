@@ -103,7 +103,8 @@ module _ (pp : ℕ) (t : Bool) (p pmask a : ℕ) (fit : a % 16 + p ≤ 16) (s : 
       ≡ cond (within (a % 16) p j) (bit_of (drawn pp t (2 ^ p - 1) pmask a s w) (j - a % 16)) (bit_of w j)
   unfolding word_after
   bit-word_after w j hw =
-      ap (λ (x : ℕ). bit_of x j) (with_pixel-with_bits p w a _ fit hw (pixel_after-lt p _ (pixel_of-lt p pmask a) pp t s _ (pixel_of-lt p w a)))
+      ap (λ (x : ℕ). bit_of x j)
+      (with_pixel-with_bits p w a _ fit hw (pixel_after-lt p _ (pixel_of-lt p pmask a) pp t s _ (pixel_of-lt p w a)))
       ∙ bit-with_bits w (a % 16) p _ j
 
   pub bit_at-plotted : {n : ℕ} {m : List ℕ} → Memory n m → a < 16 * n → (b : ℕ)

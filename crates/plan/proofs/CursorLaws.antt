@@ -33,13 +33,7 @@ skipped-up_to (c ∷ s) n = go (eqb c 10) n
     go false n = refl
 
 module _ (text : List ℕ) (at end : ℕ) where
-  pub skipped_at-last : length text ≤ end → false ≡ skipped_at text at end
-  skipped_at-last h = rw (le-ltb _ _ h)
-
   module _ (is : end ≡ at + length (line_at text at)) (ended : end < length text) where
-    pub skipped_at-empty : at ≡ end → true ≡ skipped_at text at end
-    skipped_at-empty e = rw (lt-ltb _ _ ended) (skipped-nil (line_at text at) (omega arith))
-
     pub skipped_at-first : (at ≡ end → ⊥) → eqb (get_or text at 0) 35 ≡ skipped_at text at end
     skipped_at-first n =
         let first : get_or (drop at text) 0 0 ≡ get_or text at 0 = get_or-drop at text 0 0 ∙ rw add-zero in
@@ -71,10 +65,6 @@ module _ (text : List ℕ) (at end number : ℕ) (is : end ≡ at + length (line
 -- The next line: from a place on, past a line that is skipped, and where one is not
 
 module _ {text : List ℕ} {from number : ℕ} where
-  pub reached-here : {end : ℕ} → PositionIn text from number → end ≡ from + length (line_at text from)
-      → FoundLine text from number (record { at = from; end = end; line = number })
-  reached-here p e = record { place = p; onwards = omega arith; ends = e; lines = refl }
-
   module _ {at end line : ℕ} (r : FoundLine text from number (record { at = at; end = end; line = line })) where
     pub end-le : end ≤ length text
     end-le = part-end-le 10 text at end r.ends r.place.within
@@ -104,13 +94,6 @@ pub some-behind : (text : List ℕ) (c : Cursor) → 0 < length (lines_behind te
 some-behind text c = lines-some text (c.end + 1) (c.line + 1)
 
 module _ {text : List ℕ} {from number : ℕ} {c : Cursor} (n : NextLine text from number c) where
-  pub next_here : NextLine text c.at c.line c
-  next_here =
-      record {
-        reached = record { place = n.reached.place; onwards = omega arith; ends = n.reached.ends; lines = refl };
-        stays = n.stays;
-      }
-
   -- a line that is ended: it, and the lines behind it
   module _ (ended : c.end < length text) where
     pub next_place : PositionIn text (c.end + 1) (c.line + 1)

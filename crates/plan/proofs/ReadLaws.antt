@@ -24,13 +24,3 @@ reads-start text =
       going = λ e. (record { within = omega arith; numbered = omega arith }, reads_none text);
       gone = λ e. cc;
     }
-
-pub reads-turn : {text : List ℕ} {n m : ℕ} {c : Cursor} {s : State} → NextLine text n m c → LineRead text c s
-    → Reads text (c.end + 1) (c.line + 1) s
-reads-turn x r =
-    record { going = λ e. (next_place x (r.more e).0, (r.more e).1); gone = r.done }
-
--- the measure falls
-pub reads-less : {text : List ℕ} {n m : ℕ} {c : Cursor} → PositionIn text n m → NextLine text n m c
-    → length text + 1 - (c.end + 1) < length text + 1 - n
-reads-less p x = omega (arith, p.within, x.reached.onwards, x.reached.ends)

@@ -51,7 +51,8 @@ axis_lines-sound words draw axes [] s = s
 axis_lines-sound words draw axes (l ∷ []) s = cond_both SoundReading (eqb (length l.bytes) 0) _ _ (λ e. s) (λ e. sound_none)
 axis_lines-sound words draw axes (l ∷ m ∷ ls) s =
     cond_both SoundReading (eqb (axis_refusal axes (fields_of l.bytes)) 0) _ _
-    (λ e. axis_lines-sound words draw (axes ++ (axis_of (fields_of l.bytes) ∷ [])) (m ∷ ls) (sound-next s (good-on axes _ (eqb-true _ _ e)))) (λ e. sound_none)
+    (λ e. axis_lines-sound words draw (axes ++ (axis_of (fields_of l.bytes) ∷ [])) (m ∷ ls)
+    (sound-next s (good-on axes _ (eqb-true _ _ e)))) (λ e. sound_none)
 
 draw_line-sound : (words : ℕ) (ls : List Line) → Sound (read_draw words ls).axes
 unfolding read_draw

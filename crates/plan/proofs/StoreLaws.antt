@@ -55,7 +55,7 @@ module _ {text t starts : List ℕ} {axes : ℕ} where
         ∙ ap length (table_of-append (take k plan-axes) (drop k plan-axes))
         ∙ length-append (table_of (take k plan-axes)) _
 
-    pub same-table : length table ≡ length t
+    same-table : length table ≡ length t
     same-table = ap length i.table_is ∙ length-stored (take k plan-axes) t (omega (arith, i.room, all_fit, apart))
 
     -- the next one is that of the line at its place
@@ -91,7 +91,3 @@ module _ {text t starts : List ℕ} {axes : ℕ} where
             table_is = te ∙ rw (i.table_is, i.used-is, one_more) (stored_next (take k plan-axes) a t (omega (arith, fits)));
             used-is = ue ∙ rw one_more (omega (arith, i.used-is, length-with_axis (take k plan-axes) a));
           }
-
-    -- and at last all are
-    pub all-stored : axes ≤ k → table ≡ stored_axes plan-axes t
-    all-stored h = i.table_is ∙ ap (λ (l : List Axis). stored_axes l t) (take_all k plan-axes (omega (arith, h, how-many)))

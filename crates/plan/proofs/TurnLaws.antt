@@ -38,17 +38,6 @@ reads_none text =
 -- At the next line that is not skipped
 
 module _ {text : List ℕ} {n m : ℕ} {c : Cursor} (x : NextLine text n m c) where
-  pub reads-next : {s : State} → LinesRead text s n m → LinesRead text s c.at c.line
-  reads-next r =
-      let same = x.reached.lines in
-      record {
-        accepted = r.accepted;
-        memory = λ e. rw (← same) (r.memory e);
-        draw = λ w d. rw (← same) (r.draw w d);
-        none = r.none;
-        axes = λ w d. rw (← same) (r.axes w d);
-      }
-
   -- of a text that is not too long the numbers behind a line are small
   pub next_fits : length text ≤ text_limit → (c.end + 1 < 2 ^ 64) × (c.line + 1 < 2 ^ 64)
   next_fits h =

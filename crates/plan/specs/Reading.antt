@@ -80,4 +80,5 @@ text_limit = 65536
 
 unfoldable pub reading : List ℕ → Reading
 reading text =
-    cond (ltb text_limit (length text)) (refused_at 20 1) (read_memory (kept_lines 1 (lines_of text)))
+    cond (ltb text_limit (length text)) (refused_at 20 1)
+    (read_memory (kept_lines 1 (lines_of text)))

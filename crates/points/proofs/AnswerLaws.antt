@@ -67,9 +67,6 @@ pub small-axes_in : (k n : ℕ) (t : List ℕ) → n < points_in k t → any too
 small-axes_in k n t h = too_large-axes_in k t (holding k n t h).held
 
 module _ (k n : ℕ) (t out : List ℕ) where
-  pub answer-short : length out < 14 → (9 ≡ answer_for k t n out) × (out ≡ out_after k t n out)
-  answer-short h = rw (lt-ltb (length out) 14 h) (refl, refl)
-
   pub answer-refused : 14 ≤ length out → points_in k t ≤ n → (24 ≡ answer_for k t n out) × (out ≡ out_after k t n out)
   answer-refused l h = rw (le-ltb (length out) 14 l, refusal_in-test k n t, le-ltb n (points_in k t) h) (refl, refl)
 
@@ -77,5 +74,8 @@ module _ (k n : ℕ) (t out : List ℕ) where
       → (0 ≡ answer_for k t n out) × (assigned (axes_in k t) (indices (axes_in k t) n) (with_defaults out) ≡ out_after k t n out)
   unfolding experiment
   answer-done l h =
-      rw (le-ltb (length out) 14 l, refusal_in-test k n t, lt-ltb n (points_in k t) h)
-      (refl, assigned-append (axes_in k t) (indices (axes_in k t) n) defaults (drop 14 out) (unknown-axes_in k t (holding k n t h).held) refl)
+      rw (le-ltb (length out) 14 l, refusal_in-test k n t, lt-ltb n (points_in k t) h) (
+        refl,
+        assigned-append (axes_in k t) (indices (axes_in k t) n) defaults (drop 14 out)
+            (unknown-axes_in k t (holding k n t h).held) refl,
+      )

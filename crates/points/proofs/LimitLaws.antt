@@ -43,8 +43,3 @@ pub joined-next : (name : ℕ) (vs : List ℕ) (all i : ℕ) → i < length vs �
 joined-next name vs all i h e =
     leb-or-limit name all (get_or vs i 0)
     ∙ rw (e, add-one i, take-suc vs i 0 h) (sym (any_snoc (leb (limit name)) (get_or vs i 0) (take i vs)))
-
--- the test with the greatest value, one below the limit
-pub joined_end : (name : ℕ) (vs : List ℕ) (all i most : ℕ) → length vs ≤ i → Joined name vs all i → most + 1 ≡ limit name
-    → ltb most all ≡ any (leb (limit name)) vs
-joined_end name vs all i most h e m = too_large_for-greatest name most all m ∙ e ∙ rw (take_all i vs h)

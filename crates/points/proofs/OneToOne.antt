@@ -49,9 +49,11 @@ any-value_at a i h =
     any-of-get_or (eqb (value_at a i)) (axis_values a) i (rw (length-axis_values a) h)
     (rw (get_or-axis_values a i) (eq-eqb (value_at a i) (value_at a i) refl))
 
-first-value_at : (a : Axis) (i : ℕ) → any_pair eqb (axis_values a) ≡ false → i < axis_length a → first (eqb (value_at a i)) (axis_values a) ≡ i
+first-value_at : (a : Axis) (i : ℕ) → any_pair eqb (axis_values a) ≡ false → i < axis_length a
+    → first (eqb (value_at a i)) (axis_values a) ≡ i
 first-value_at a i d h =
-    ap (λ (v : ℕ). first (eqb v) (axis_values a)) (sym (get_or-axis_values a i)) ∙ first-get_or (axis_values a) i d (rw (length-axis_values a) h)
+    ap (λ (v : ℕ). first (eqb v) (axis_values a)) (sym (get_or-axis_values a i))
+    ∙ first-get_or (axis_values a) i d (rw (length-axis_values a) h)
 
 -- each axis's name has one of its values
 assigned-chosen : (axes : List Axis) (is vs : List ℕ) → Sound axes → length vs ≡ 14 → InRange axes is

@@ -45,7 +45,8 @@ count-le (a ∷ later) e =
     rw (pow-succ' most_values (length later)) (mul-le-mul (good_length a p.0).1 (count-le later p.1))
 
 pub count-le-eight : (axes : List Axis) → length axes ≤ most_axes → any bad_length axes ≡ false → count axes ≤ most_values ^ most_axes
-count-le-eight axes h e = omega (arith, count-le axes e, pow-le-pow_right {n = most_values} (omega arith) {i = length axes} {j = most_axes} h)
+count-le-eight axes h
+    e = omega (arith, count-le axes e, pow-le-pow_right {n = most_values} (omega arith) {i = length axes} {j = most_axes} h)
 
 pub indices-in_range : (axes : List Axis) → Filled axes → (n : ℕ) → n < count axes → InRange axes (indices axes n)
 unfolding count indices

@@ -63,7 +63,11 @@ not-held-of {b} t e n = sym e ∙ not-true b n
 pub holds_axis-short : (t : List ℕ) → length t < 2 → false ≡ holds_axis t
 unfolding holds_axis
 holds_axis-short t h =
-    rw (lt-leb (size_in t) (length t) (omega arith), and-false (ltb (get_or t 0 0) 14 && leb 1 (length_in t) && leb (length_in t) most_values))
+    rw (
+      lt-leb (size_in t) (length t) (omega arith),
+      and-false
+          (ltb (get_or t 0 0) 14 && leb 1 (length_in t) && leb (length_in t) most_values),
+    )
 
 leb-sub : (v l : ℕ) → 2 ≤ l → leb v (l - 2) ≡ leb (2 + v) l
 leb-sub v zero h = absurd (omega arith)
@@ -87,12 +91,6 @@ module _ (t : List ℕ) (l : 2 ≤ length t) where
 
   pub not-shaped : not (shape t) ≡ true → false ≡ holds_axis t
   not-shaped e = sym (holds_axis-shape ∙ rw (not-true (shape t) e))
-
-  pub shaped-fits : not (shape t) ≡ false → size_in t ≤ length t
-  shaped-fits e =
-      let few : Bool = ltb (get_or t 0 0) 14 && leb 1 (length_in t) && leb (length_in t) most_values in
-      let p = (and-eq-true_iff few (leb (length_in t) (length t - 2))).0 (not-false (shape t) e) in
-      leb-true _ _ (sym (leb-sub (length_in t) (length t) l) ∙ p.1)
 
   pub shaped-small : not (shape t) ≡ false → {b : Bool} → b ≡ any (leb (limit (get_or t 0 0))) (take (size_in t - 2) (drop 2 t))
       → not b ≡ holds_axis t
@@ -144,11 +142,6 @@ pub record Counted (t : List ℕ) (k i n at : ℕ) : Type 0 where
   pub rest : n * count_in (k - i) (drop at t) ≡ count_in k t
 
 module _ (t : List ℕ) (k : ℕ) where
-  pub counted_start : Counted t k 0 1 0
-  counted_start =
-      let z : k - 0 ≡ k = omega arith in
-      record { few = omega arith; inside = omega arith; full = omega arith; rest = rw z (one-mul (count_in k t)) }
-
   module _ {i n at : ℕ} (c : Counted t k i n at) where
     -- an axis that isn't there
     pub counted_stop : i < k → holds_axis (drop at t) ≡ false → 0 ≡ count_in k t
@@ -158,7 +151,7 @@ module _ (t : List ℕ) (k : ℕ) where
     counted-end h = sym (mul-one n) ∙ ap (λ (m : ℕ). n * m) (count_in-none (drop at t) (k - i) (omega (arith, c.few))) ∙ c.rest
 
     module _ (h : i < k) (e : holds_axis (drop at t) ≡ true) where
-      pub counted-inside : (length_in (drop at t) ≤ most_values) × (at + size_in (drop at t) ≤ length t)
+      counted-inside : (length_in (drop at t) ≤ most_values) × (at + size_in (drop at t) ≤ length t)
       counted-inside = ((held (drop at t) e).few, omega (arith, (held (drop at t) e).whole, length-drop at t, c.inside))
 
       counted-full : n * length_in (drop at t) ≤ most_values ^ (i + 1)
@@ -233,7 +226,8 @@ value_at-axis_in t i h = get_or-take (length_in t) (drop 2 t) i 0 h ∙ get_or-d
 pub assigned-next : (k total n : ℕ) (t vs : List ℕ) → (k ≡ 0 → ⊥) → Decoding (k - 1) total n t
     → let later = axes_in (k - 1) (later_in t) in
     let m = total / length_in t in
-    assigned later (indices later (n % m)) (set vs (get_or t 0 0) (value_in t (n / m))) ≡ assigned (axes_in k t) (indices (axes_in k t) n) vs
+    assigned later (indices later (n % m)) (set vs (get_or t 0 0) (value_in t (n / m)))
+    ≡ assigned (axes_in k t) (indices (axes_in k t) n) vs
 unfolding axes_in indices assigned
 assigned-next zero total n t vs z d = absurd (z refl)
 assigned-next (suc k) total n t vs z d = rw (← value_at-axis_in t _ d.index, d.counted, suc-pred k)
@@ -250,4 +244,5 @@ module _ (k total n : ℕ) (t : List ℕ) (one : k ≡ 1) (d : Decoding (k - 1) 
   pub assigned-last : (vs : List ℕ) → set vs (get_or t 0 0) (value_in t n) ≡ assigned (axes_in k t) (indices (axes_in k t) n) vs
   unfolding axes_in indices assigned
   assigned-last vs =
-      rw one (ap (λ (i : ℕ). set vs (get_or t 0 0) (value_in t i)) (sym index-last) ∙ rw one at (assigned-next k total n t vs (omega arith) d))
+      rw one (ap (λ (i : ℕ). set vs (get_or t 0 0) (value_in t i)) (sym index-last)
+      ∙ rw one at (assigned-next k total n t vs (omega arith) d))

@@ -38,8 +38,13 @@ pub axes_in-table_of : (axes : List Axis) (rest : List ℕ) → axes_in (length 
 unfolding axes_in
 axes_in-table_of [] rest = refl
 axes_in-table_of (a ∷ later) rest =
-    rw
-    (table_of-front a later rest, axis_in-front a (table_of later ++ rest), later_in-front a (table_of later ++ rest), axes_in-table_of later rest)
+    rw (
+      table_of-front a later rest,
+      axis_in-front a (table_of later ++ rest),
+      later_in-front a
+          (table_of later ++ rest),
+      axes_in-table_of later rest,
+    )
 
 pub length-table_of-le : (axes : List Axis) → any bad_length axes ≡ false → length (table_of axes) ≤ (2 + most_values) * length axes
 unfolding any table_of

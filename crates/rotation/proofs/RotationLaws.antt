@@ -9,12 +9,6 @@ use lib.Count.{count_leading_zeros, leading_unique}
 use lib.Pow.{pow-lt, pow_mono, pow-add, shl_lt}
 use Rattle.rotation.specs.Rotation.{log2, come_round, rotated_left}
 
-pub log2-pow : (k : ℕ) → k < 32 → log2 (2 ^ k) ≡ k
-log2-pow k h =
-    let zeros : 31 - k ≡ count_leading_zeros 32 (2 ^ k) =
-    leading_unique 32 (2 ^ k) (31 - k) (suc k) (omega arith) (pow-lt (omega arith)) (omega (arith, pow-suc 2 k)) in
-    omega (arith, zeros)
-
 -- a number that passes bit 31 whole is as one that stays below it
 come_round-whole : (n : ℕ) → n < 2 ^ 32 → come_round (n * 2 ^ 32) ≡ come_round n
 come_round-whole n h =

@@ -18,7 +18,7 @@ module _ (d : Drawing) (from to : ℕ) where
   unfolding drawn_at
   memory-drawn_at g = memory-plotted d.pp d.t _ d.pmask to _ g
 
-  pub length-row_drawn : (n : ℕ) (m : List ℕ) → length (row_drawn d from to n m) ≡ length m
+  length-row_drawn : (n : ℕ) (m : List ℕ) → length (row_drawn d from to n m) ≡ length m
   unfolding row_drawn length-drawn_at
   length-row_drawn zero m = refl
   length-row_drawn (suc n) m = length-plotted d.pp d.t _ d.pmask _ _ _ ∙ length-row_drawn n m

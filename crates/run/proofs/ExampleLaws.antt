@@ -27,7 +27,8 @@ use Rattle.run.specs.Example.{Example}
 
 pub example : Example
 unfolding bit_of bit_at differing changed_bits stepped pixel_operations processed pixel_of result pixel_after with_pixel word_after plotted
-    xy_address bad_xy_pitch common clipped address_at address_of reaches leaves_memory settings_of source_at drawn_at visits clipped_array v_after
+    xy_address bad_xy_pitch common clipped address_at address_of reaches leaves_memory settings_of source_at drawn_at visits clipped_array
+    v_after
     v_under dest_start src_start chosen_walk drawing_of lowest refusal_of refusal outcome_at outcome drawn
     alignment_of time_of adjust_of fill_of fill_time axis_length value_at count indices assigned
     experiment digits numbers_line ran_over point_line point_lines

@@ -26,11 +26,6 @@ use Rattle.run.specs.Lines.{point_lines, longest, after_last}
 use Rattle.running.specs.Progress.{HoldsImage, progressed}
 use Rattle.run.proofs.LinesLaws.{length-point_line, length-point_lines, point_lines-next}
 
--- bytes that fit are put
-pub line-placed : (at : ℕ) (bs bs' out : List ℕ) → bs ≡ bs' → at + length bs' ≤ length out → {r : ℕ} {o : List ℕ}
-    → r ≡ index_after at bs (length out) → o ≡ put_if at bs out → (r ≡ at + length bs') × (o ≡ put at bs' out)
-line-placed at bs bs' out e h er eo = (er ∙ rw (e, le-leb _ _ h), eo ∙ rw (e, le-leb _ _ h))
-
 -- One point, as the code goes: the experiment, its image, its drawing, its line
 module _ (words draw : ℕ) (axes : List Axis) (point : ℕ) (p : Progress) {s : Settings} {seed : ℕ} {op : Operation} {m : List ℕ} {ran : Ran}
     (es : s ≡ settings_of (experiment axes point)) (ed : seed ≡ seed_of (experiment axes point)) (em : m ≡ image words seed)

@@ -1,5 +1,6 @@
 // The points of a plan, run: `lines` puts their listing lines, and has no requires.
 #![tactic(auto)]
+
 ghost use Rattle.std.specs.Prelude.{◌≡◌, false, ◌+◌, ◌*◌, ◌^◌, ◌<◌, ◌≤◌, length};
 ghost use Rattle.memory.specs.Bits.{no_memory};
 ghost use Rattle.image.specs.Image.{image};

@@ -121,8 +121,10 @@ computed : ((after_calls fill copy false true m cs).memory ≡ 49151 ∷ 10 ∷ 
     ≡ record { answer = 0; place = 3; v = true; request = false; saddr = 0; daddr = 16; dydx = 65540; settings = fill.settings })
     × ((after_calls fill copy false true m cs).held 1
     ≡ record { answer = 0; place = 2; v = true; request = false; saddr = 48; daddr = 28; dydx = 65538; settings = copy.settings })
-unfolding run next outcome outcome_at drawn refusal refusal_of lowest v_after v_under drawing_of chosen_walk clipped_array dest_start src_start
-    clipped common xy_address bad_xy_pitch leaves_memory reaches address_at address_of visits drawn_at source_at plotted word_after with_pixel
+unfolding run next outcome outcome_at drawn refusal refusal_of lowest v_after v_under drawing_of chosen_walk clipped_array dest_start
+    src_start
+    clipped common xy_address bad_xy_pitch leaves_memory reaches address_at address_of visits drawn_at source_at plotted word_after
+    with_pixel
     pixel_after result processed pixel_operations pixel_of
 computed = (refl, refl, refl)
 

@@ -45,7 +45,8 @@ module _ (line : List ℕ) (p e : ℕ) (is : e ≡ p + length (up_to 9 (drop p l
   unfolding any
   any_here q t = rw (fields_from-cons, t)
 
-  pub any_next : (q : List ℕ → Bool) → q (take (e - p) (drop p line)) ≡ false → any q (fields_from line p) ≡ any q (fields_from line (e + 1))
+  pub any_next : (q : List ℕ → Bool) → q (take (e - p) (drop p line)) ≡ false
+      → any q (fields_from line p) ≡ any q (fields_from line (e + 1))
   unfolding any
   any_next q t = rw (fields_from-cons, t)
 
@@ -88,7 +89,8 @@ module _ (line : List ℕ) where
 
   pub second-field : up_to 9 (drop (behind line 0) line) ≡ get_or (fields_of line) 1 []
   second-field =
-      sym (get_or-fields_from line (behind line 0)) ∙ rw (fields_from-behind line 0, fields_from-zero line) (get_or-drop 1 (fields_of line) 0 [])
+      sym (get_or-fields_from line (behind line 0))
+      ∙ rw (fields_from-behind line 0, fields_from-zero line) (get_or-drop 1 (fields_of line) 0 [])
 
   pub fields_from-third_at : fields_from line (third_at line) ≡ drop 2 (fields_of line)
   fields_from-third_at =

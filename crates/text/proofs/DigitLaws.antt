@@ -35,18 +35,7 @@ fitting-value true v w e = go (ltb v (2 ^ 64)) refl e
 
 -- One digit more
 
-pub pushed-low : (v c : ℕ) → c < digit0 → pushed v c ≡ Bad
-pushed-low v c h = rw (lt-leb digit0 c h)
-
-pub pushed-high : (v c : ℕ) → digit9 < c → pushed v c ≡ Bad
-pushed-high v c h = rw (lt-leb c digit9 h, and-false)
-
 module _ (v c : ℕ) (low : digit0 ≤ c) (high : c ≤ digit9) where
-  pub pushed-fits : v * 10 + (c - digit0) < 2 ^ 64 → pushed v c ≡ Value (v * 10 + (c - digit0))
-  pushed-fits h = rw (le-leb digit0 c low, le-leb c digit9 high, lt-ltb _ (2 ^ 64) h)
-
-  pub pushed-over : 2 ^ 64 ≤ v * 10 + (c - digit0) → pushed v c ≡ Bad
-  pushed-over h = rw (le-leb digit0 c low, le-leb c digit9 high, le-ltb _ (2 ^ 64) h)
 
 pub pushed-lt : (v c w : ℕ) → pushed v c ≡ Value w → w < 2 ^ 64
 pushed-lt v c w e = (fitting-value (is_digit c) (v * 10 + (c - digit0)) w e).2

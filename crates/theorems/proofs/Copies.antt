@@ -23,7 +23,8 @@ pub copy-scroll : CopyScroll
 copy-scroll w m g op s e plain (scroll, way) b whole = accepted.copy-scroll w m g op s e plain b whole scroll way
 
 pub scroll-right : ScrollRight
-unfolding drawn refusal refusal_of lowest drawing_of chosen_walk clipped_array dest_start src_start leaves_memory reaches address_at address_of
+unfolding drawn refusal refusal_of lowest drawing_of chosen_walk clipped_array dest_start src_start leaves_memory reaches address_at
+    address_of
     visits drawn_at source_at plotted word_after with_pixel pixel_after result processed pixel_operations pixel_of
 scroll-right = (refl, refl, refl)
 

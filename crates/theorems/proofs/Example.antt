@@ -15,7 +15,8 @@ use Rattle.run.proofs.ExampleLaws.{example}
 use Rattle.theorems.specs.Example.{plan_text, ExampleListed, OfExample}
 
 read : reading plan_text ≡ accepted_reading 4 0 example_axes
-unfolding any first any_pair in_front parts same are_digits digits_value number_of axis_length value_at axis_values limit memory_of draw_of name_of
+unfolding any first any_pair in_front parts same are_digits digits_value number_of axis_length value_at axis_values limit memory_of draw_of
+    name_of
     values_of bad_form line_refusal kept_lines read_axes read_draw read_memory reading
 read = refl
 

@@ -37,7 +37,8 @@ of-refusal true e = refl
 of-refusal false e = absurd (omega arith)
 
 pub refused-exactly : (c : Cache) (address control : ℕ)
-    → (fetch_answer (fetched c address control).kind ≡ fetch_refusal c) × (((fetched c address control).kind ≡ Refused) ↔ (bad_state c ≡ true))
+    → (fetch_answer (fetched c address control).kind ≡ fetch_refusal c)
+    × (((fetched c address control).kind ≡ Refused) ↔ (bad_state c ≡ true))
 refused-exactly c address control =
     let a = answer-refusal c address control in (
       a,

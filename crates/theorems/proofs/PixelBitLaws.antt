@@ -34,7 +34,8 @@ module _ (pp : ℕ) (t : Bool) (p mask s d j : ℕ) (h : j < p) where
       cond (eqb b 1 || (t && eqb (result pp top mask s d) 0)) (bit_of d j)
       (bit_of (processed pp top (unmasked top mask s) (unmasked top mask d)) j)
 
-  bit-result : bit_of mask j ≡ 0 → bit_of (result pp top mask s d) j ≡ bit_of (processed pp top (unmasked top mask s) (unmasked top mask d)) j
+  bit-result : bit_of mask j ≡ 0
+      → bit_of (result pp top mask s d) j ≡ bit_of (processed pp top (unmasked top mask s) (unmasked top mask d)) j
   unfolding result
   bit-result e = bit-unmasked p mask j (processed pp top (unmasked top mask s) (unmasked top mask d)) h e
 

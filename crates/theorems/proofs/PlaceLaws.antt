@@ -55,7 +55,12 @@ module _ (pbh pbv : Bool) (cols rows : ℕ) where
   row-col : (i : ℕ) → i < cols * rows → (x left y above : ℕ)
       → In cols rows x left y above (x + (left + chosen_index pbh cols (i % cols))) (y + (above + chosen_index pbv rows (i / cols)))
   row-col i h x left y above =
-      omega (arith, chosen_index-lt pbh cols (i % cols) (column-lt cols rows i h), chosen_index-lt pbv rows (i / cols) (row_lt cols rows i h))
+      omega (
+        arith,
+        chosen_index-lt pbh cols (i % cols) (column-lt cols rows i h),
+        chosen_index-lt pbv rows (i / cols)
+            (row_lt cols rows i h),
+      )
 
   -- the pixel at column a and row b
   number_of : (a b : ℕ) → a < cols → b < rows

@@ -46,7 +46,8 @@ written_of : (words size draw axes first k : ℕ) (t : List ℕ) → bad_shape w
     → written words words size draw axes t first k ≡ point_lines words draw (axes_in axes t) first k
 written_of words size draw axes first k t b n p = rw (b, n, p)
 
-shape_of : (words draw k size : ℕ) → words ≤ plan_words → draw < drawing_count → longest * k ≤ size → bad_shape words words draw k size ≡ false
+shape_of : (words draw k size : ℕ) → words ≤ plan_words → draw < drawing_count → longest * k ≤ size
+    → bad_shape words words draw k size ≡ false
 shape_of words draw k size h d r =
     rw (le-ltb plan_words words h, eq-eqb words words refl, lt-leb drawing_count draw d, le-ltb size (longest * k) r)
 

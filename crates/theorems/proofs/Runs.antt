@@ -61,7 +61,8 @@ whole-or-refused op s m h = go (eqb (refusal op s 0 (length m)) 0) refl
 
 pub points-are-whole : PointsAreWhole
 points-are-whole words draw axes n =
-    whole-or-refused (operation_of draw) (settings_of (experiment axes n)) (image_for words (experiment axes n)) (dydx-lt (experiment axes n))
+    whole-or-refused (operation_of draw) (settings_of (experiment axes n)) (image_for words (experiment axes n))
+    (dydx-lt (experiment axes n))
 
 -- Parts
 

@@ -19,7 +19,8 @@ use Rattle.overlap.specs.Example.{two_rows, moved_right, smeared}
 abbrev KeepsSource : (Operation → Settings → Type 0) → Type 0
 KeepsSource If =
     (w : ℕ) (m : List ℕ) → Memory w m
-    → (op : Operation) (s : Settings) → refusal op s 0 w ≡ 0 → PlainCopy (drawing_for op s) → If op s
+    → (op : Operation) (s : Settings) → refusal op s 0 w ≡ 0 → PlainCopy (drawing_for op s)
+    → If op s
     → (b : ℕ) → pixels (drawing_for op s) ≤ b
     → OldSource (drawing_for op s) m (drawn op s 0 b m)
 

@@ -93,7 +93,8 @@ FetchRefused =
 
 -- Reading a plan: the lent table stays.
 abbrev pub PlanRefused : Type 0
-PlanRefused = (text t : List ℕ) → ((plan_of text (length t)).answer ≡ 0 → ⊥) → table_after text t ≡ t
+PlanRefused = (text t : List ℕ) → ((plan_of text (length t)).answer ≡ 0 → ⊥)
+    → table_after text t ≡ t
 
 -- every statement of this file
 pub record OfRefusals : Type 0 where

@@ -14,7 +14,8 @@ use Rattle.slices.specs.Demand3.{AnyDrawings, Demand3, StoppedAnywhere, OthersSt
 abbrev pub NewPlace : Type 0
 NewPlace =
     (op : Operation) (s : Settings) (place : ℕ) (v : Bool) (budget words : ℕ)
-    → (outcome op s place v budget words).place ≡ place + (outcome op s place v budget words).visited
+    → (outcome op s place v budget words).place
+    ≡ place + (outcome op s place v budget words).visited
 
 -- Slices join: a call, and then one with the place and V that it handed back, over the memory that
 -- it left, are one call with both budgets. The memory is the same, and so is all that is handed

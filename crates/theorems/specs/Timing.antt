@@ -40,7 +40,8 @@ RowsAlike =
 abbrev pub RowWords : Type 0
 RowWords =
     (op : Operation) (s : Settings) (place words : ℕ) → refusal op s place words ≡ 0
-    → from_right op s ≡ false → 0 < (drawing_for op s).cols → (row : ℕ) → row < (drawing_for op s).rows
+    → from_right op s ≡ false → 0 < (drawing_for op s).cols → (row : ℕ)
+    → row < (drawing_for op s).rows
     → let first = word_holding op s row 0 in
     ((column : ℕ) → column < (drawing_for op s).cols
     → (first ≤ word_holding op s row column)
@@ -51,7 +52,8 @@ RowWords =
 -- FILL time = setup time + transfer time - adjustment, and nothing is cut off.
 abbrev pub TimeAddsUp : Type 0
 TimeAddsUp =
-    (f : Fill) → (time_of f).states + (time_of f).adjustment ≡ (time_of f).setup + (time_of f).transfer
+    (f : Fill)
+    → (time_of f).states + (time_of f).adjustment ≡ (time_of f).setup + (time_of f).transfer
 
 -- The column `states` of a plan's point is what `fill_states` gives for its drawing.
 abbrev pub StatesAreTime : Type 0

@@ -205,7 +205,13 @@ pub returns-then-too_many : goal.returns-then-too_many
 unfolding line_refusal
 returns-then-too_many c =
     told-2 c c.axis_line-then-too_many.ensures
-    (rw (form-2 c ∙ c.if-bad_form.false, named-2 c ∙ c.if-bad_name.false, valued-2 c ∙ c.if-bad_values.false, many-2 c ∙ c.if-too_many.true))
+    (rw (
+      form-2 c ∙ c.if-bad_form.false,
+      named-2 c ∙ c.if-bad_name.false,
+      valued-2 c ∙ c.if-bad_values.false,
+      many-2 c
+          ∙ c.if-too_many.true,
+    ))
 
 pub returns : goal.returns
 unfolding line_refusal

@@ -1,6 +1,5 @@
 -- `columns::line` meets its contract: each turn puts one column, and the last one ends the line. Assumes nothing.
 use mathlib.Core.Path.{◌≡◌, sym, ◌∙◌}
-use Prim.Native.Nat.{◌-◌}
 use native.Mathlib.Omega.{arith}
 use lib.ListN.{length}
 use Rattle.columns.proofs.TextLaws.{texted-room, texted-room-last, texted-step, texted-end}
@@ -37,7 +36,8 @@ loop-i-preserved c =
     let x = c.args in (
       omega (arith, c.loop-i-test.true),
       texted-step x.coordinates.now x.ns.now x.text.now (alike-3 c) c.requires.ns_in_bounds c.loop-i.i c.loop-i.to c.loop-i.text
-          c.loop-i.invariant.1 _ _ (omega (arith, c.loop-i-test.true, c.requires.ns_len)) c.column-to.ensures.value c.column-to.ensures.out_after,
+          c.loop-i.invariant.1 _ _
+          (omega (arith, c.loop-i-test.true, c.requires.ns_len)) c.column-to.ensures.value c.column-to.ensures.out_after,
     )
 
 pub column-requires : goal.column-requires

@@ -10,7 +10,8 @@ use Rattle.columns.proofs.ColumnsLaws.{held_line-is, length-columns_line}
 use Rattle.columns.proofs.put.Goals as goal
 
 -- what is held is the line
-line-is-3 : (c : goal.After-bytes-arg-1) → let x = c.args in held_line c.coordinates-coordinates.result c.numbers-ns.result ≡ columns_line x.point x.values.now
+line-is-3 : (c : goal.After-bytes-arg-1)
+    → let x = c.args in held_line c.coordinates-coordinates.result c.numbers-ns.result ≡ columns_line x.point x.values.now
 line-is-3 c =
     held_line-is _ _ _ _ _ _ c.coordinates-coordinates.ensures c.numbers-ns.ensures c.settings_of-s.ensures c.seed_of.ensures
 
@@ -24,7 +25,8 @@ text-3 c =
     first-bytes _ (replicate 212 0) (length-columns_line _ _) _ _ (omega (arith, n)) (rw e at c.line-end.ensures.text_after)
 
 -- what is held is the line
-line-is-2 : (c : goal.After-text-3-1) → let x = c.args in held_line c.coordinates-coordinates.result c.numbers-ns.result ≡ columns_line x.point x.values.now
+line-is-2 : (c : goal.After-text-3-1)
+    → let x = c.args in held_line c.coordinates-coordinates.result c.numbers-ns.result ≡ columns_line x.point x.values.now
 line-is-2 c =
     held_line-is _ _ _ _ _ _ c.coordinates-coordinates.ensures c.numbers-ns.ensures c.settings_of-s.ensures c.seed_of.ensures
 
@@ -38,7 +40,8 @@ text-2 c =
     first-bytes _ (replicate 212 0) (length-columns_line _ _) _ _ (omega (arith, n)) (rw e at c.line-end.ensures.text_after)
 
 -- what is held is the line
-line-is : (c : goal.After-slice_known-2-1) → let x = c.args in held_line c.coordinates-coordinates.result c.numbers-ns.result ≡ columns_line x.point x.values.now
+line-is : (c : goal.After-slice_known-2-1)
+    → let x = c.args in held_line c.coordinates-coordinates.result c.numbers-ns.result ≡ columns_line x.point x.values.now
 line-is c =
     held_line-is _ _ _ _ _ _ c.coordinates-coordinates.ensures c.numbers-ns.ensures c.settings_of-s.ensures c.seed_of.ensures
 

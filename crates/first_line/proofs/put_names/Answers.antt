@@ -31,7 +31,8 @@ text : (c : goal.After-slice_known-2-1) → (c.bytes-end.result ≤ length c.byt
     × (c.bytes-end.result ≡ length (take c.bytes-end.result c.bytes-end.new.out))
     × (take c.bytes-end.result c.bytes-end.new.out ≡ names_line)
 text c =
-    pieces _ _ _ _ _ _ _ c.list-names.ensures (c.bytes-start.ensures.value, c.bytes-start.ensures.out_after) (c.bytes-next.ensures.value, c.bytes-next.ensures.out_after) (c.bytes-end.ensures.value, c.bytes-end.ensures.out_after)
+    pieces _ _ _ _ _ _ _ c.list-names.ensures (c.bytes-start.ensures.value, c.bytes-start.ensures.out_after)
+    (c.bytes-next.ensures.value, c.bytes-next.ensures.out_after) (c.bytes-end.ensures.value, c.bytes-end.ensures.out_after)
 
 pub returns-clause-out_after : goal.returns-clause-out_after
 returns-clause-out_after c =

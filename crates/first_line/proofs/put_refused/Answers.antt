@@ -30,7 +30,8 @@ text : (c : goal.After-slice_known-2-1) → (c.numbers-end.result ≤ length c.n
     × (c.numbers-end.result ≡ length (take c.numbers-end.result c.numbers-end.new.out))
     × (take c.numbers-end.result c.numbers-end.new.out ≡ refused_line c.args.number c.args.line)
 text c =
-    pieces _ _ _ _ _ _ (c.bytes-start.ensures.value, c.bytes-start.ensures.out_after) (c.numbers-end.ensures.value, c.numbers-end.ensures.out_after)
+    pieces _ _ _ _ _ _ (c.bytes-start.ensures.value, c.bytes-start.ensures.out_after)
+    (c.numbers-end.ensures.value, c.numbers-end.ensures.out_after)
 
 pub returns-clause-value : goal.returns-clause-value
 returns-clause-value c =

@@ -15,7 +15,9 @@ loop-i-init c =
 
 pub overflow_add-bits : goal.overflow_add-bits
 overflow_add-bits c =
-    let counted : let x = c.args in c.loop-i.bits + c.changed_piece.result ≡ differing_by_word x.before.now x.after.now (c.loop-i.i + c.lesser.result) = ap (λ n. n + c.changed_piece.result) c.loop-i.invariant.0 ∙ c.changed_piece.ensures in
+    let counted : let x = c.args in c.loop-i.bits + c.changed_piece.result
+    ≡ differing_by_word x.before.now x.after.now (c.loop-i.i + c.lesser.result) = ap
+    (λ n. n + c.changed_piece.result) c.loop-i.invariant.0 ∙ c.changed_piece.ensures in
     let m = memory-lent c.args.before.now (λ i. (c.type_inv.before i).fits) in
     let m' = memory-lent c.args.after.now (λ i. (c.type_inv.after i).fits) in
     omega (arith, counted, by-word-le m m' (c.loop-i.i + c.lesser.result))

@@ -8,7 +8,8 @@ use Rattle.memory.proofs.changed_bits.Given as goal
 
 abbrev pub invariant-loop-i : goal.invariant-loop-i
 invariant-loop-i l =
-    (l.bits ≡ differing_by_word l.before l.after l.i) × (l.i ≤ l.both) × (l.both ≡ min (length l.before) (length l.after)) × (l.both ≤ most_words)
+    (l.bits ≡ differing_by_word l.before l.after l.i) × (l.i ≤ l.both) × (l.both ≡ min (length l.before) (length l.after))
+    × (l.both ≤ most_words)
 
 abbrev pub decreases-loop-i : goal.decreases-loop-i
 decreases-loop-i l =

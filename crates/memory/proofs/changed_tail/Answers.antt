@@ -13,7 +13,8 @@ use Rattle.memory.proofs.changed_tail.Goals as goal
 pub overflow_add-bits : goal.overflow_add-bits
 unfolding differing_by_word
 overflow_add-bits c =
-    let counted : let x = c.args in c.loop-i.bits + c.difference.result ≡ differing_by_word x.before.now x.after.now (c.loop-i.i + 1) = let x = c.args in
+    let counted : let x = c.args in c.loop-i.bits + c.difference.result
+    ≡ differing_by_word x.before.now x.after.now (c.loop-i.i + 1) = let x = c.args in
     let one = c.difference.ensures.0 ∙ ap₂ word_difference c.word_at.ensures c.word_at-in-loop-i.ensures in
     ap₂ ◌+◌ c.loop-i.invariant.0 one ∙ ap (differing_by_word x.before.now x.after.now) (sym (add-one c.loop-i.i)) in
     let m = memory-lent c.args.before.now (λ i. (c.type_inv.before i).fits) in
@@ -23,7 +24,8 @@ overflow_add-bits c =
 pub loop-i-preserved : goal.loop-i-preserved
 unfolding differing_by_word
 loop-i-preserved c =
-    let counted : let x = c.args in c.loop-i.bits + c.difference.result ≡ differing_by_word x.before.now x.after.now (c.loop-i.i + 1) = let x = c.args in
+    let counted : let x = c.args in c.loop-i.bits + c.difference.result
+    ≡ differing_by_word x.before.now x.after.now (c.loop-i.i + 1) = let x = c.args in
     let one = c.difference.ensures.0 ∙ ap₂ word_difference c.word_at.ensures c.word_at-in-loop-i.ensures in
     ap₂ ◌+◌ c.loop-i.invariant.0 one ∙ ap (differing_by_word x.before.now x.after.now) (sym (add-one c.loop-i.i)) in
     (counted, search rules, search rules, search rules)

@@ -36,7 +36,8 @@ returns-then-plan-eq0 c =
 pub returns-then-plan-eq-DRAWING_COUNT : goal.returns-then-plan-eq-DRAWING_COUNT
 returns-then-plan-eq-DRAWING_COUNT c =
     rw (c.with_draw.ensures, c.draw_of.ensures)
-    (after-draw c.requires.1 c.requires.2 (omega (arith, c.if-size-end.false)) _ (line-is-2 c) c.if-plan-eq0.false c.if-plan-eq-DRAWING_COUNT.true)
+    (after-draw c.requires.1 c.requires.2 (omega (arith, c.if-size-end.false)) _
+    (line-is-2 c) c.if-plan-eq0.false c.if-plan-eq-DRAWING_COUNT.true)
 
 pub with_axis-requires : goal.with_axis-requires
 with_axis-requires c =
@@ -45,4 +46,5 @@ with_axis-requires c =
 pub returns : goal.returns
 returns c =
     rw c.with_axis.ensures
-    (after-axis c.requires.1 c.requires.2 (omega (arith, c.if-size-end.false)) _ (line-is-3 c) c.if-plan-eq0.false c.if-plan-eq-DRAWING_COUNT.false)
+    (after-axis c.requires.1 c.requires.2 (omega (arith, c.if-size-end.false)) _
+    (line-is-3 c) c.if-plan-eq0.false c.if-plan-eq-DRAWING_COUNT.false)

@@ -5,8 +5,11 @@ use Rattle.put_lines.proofs.line.Goals as goal
 
 pub loop-i-preserved : goal.loop-i-preserved
 loop-i-preserved c =
-    let fits = c.requires.1 in
-    (omega arith, lined-step _ _ _ fits _ _ _ c.loop-i.invariant.1 _ _ (omega arith) (c.number-to.ensures.value, c.number-to.ensures.out_after))
+    let fits = c.requires.1 in (
+      omega arith,
+      lined-step _ _ _ fits _ _ _ c.loop-i.invariant.1 _ _ (omega arith)
+          (c.number-to.ensures.value, c.number-to.ensures.out_after),
+    )
 
 pub returns-clause-value : goal.returns-clause-value
 returns-clause-value c =

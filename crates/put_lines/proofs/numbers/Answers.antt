@@ -24,7 +24,8 @@ some-2 : (c : goal.After-slice_known-then-line_fits-1) → 0 < length c.args.ns.
 some-2 c =
     omega (arith, c.if-ns-eq0.false)
 
-test-2 : (c : goal.After-slice_known-then-line_fits-1) → c.line_fits.result ≡ leb (c.args.at + length (numbers_line c.args.ns.now)) (length c.args.out.now)
+test-2 : (c : goal.After-slice_known-then-line_fits-1)
+    → c.line_fits.result ≡ leb (c.args.at + length (numbers_line c.args.ns.now)) (length c.args.out.now)
 test-2 c =
     rw (length-numbers_line _ (some-2 c)) c.line_fits.ensures
 

@@ -129,18 +129,21 @@ returns-clause-result_value c =
     let x = c.args in
     (ends-done x.draw x.axes x.table.now x.first x.count x.image.now x.memory.now x.out.now (shape c) (some c)
     (sym (points-is c) ∙ c.if-ends_past.false)
-    c.run_points-length.ensures.result_value c.run_points-length.ensures.image_after c.run_points-length.ensures.memory_after c.run_points-length.ensures.out_after).0
+    c.run_points-length.ensures.result_value c.run_points-length.ensures.image_after c.run_points-length.ensures.memory_after
+    c.run_points-length.ensures.out_after).0
 
 pub returns-clause-image_after : goal.returns-clause-image_after
 returns-clause-image_after c =
     let x = c.args in
     (ends-done x.draw x.axes x.table.now x.first x.count x.image.now x.memory.now x.out.now (shape c) (some c)
     (sym (points-is c) ∙ c.if-ends_past.false)
-    c.run_points-length.ensures.result_value c.run_points-length.ensures.image_after c.run_points-length.ensures.memory_after c.run_points-length.ensures.out_after).1.0
+    c.run_points-length.ensures.result_value c.run_points-length.ensures.image_after c.run_points-length.ensures.memory_after
+    c.run_points-length.ensures.out_after).1.0
 
 pub returns-clause-memory_after : goal.returns-clause-memory_after
 returns-clause-memory_after c =
     let x = c.args in
     (ends-done x.draw x.axes x.table.now x.first x.count x.image.now x.memory.now x.out.now (shape c) (some c)
     (sym (points-is c) ∙ c.if-ends_past.false)
-    c.run_points-length.ensures.result_value c.run_points-length.ensures.image_after c.run_points-length.ensures.memory_after c.run_points-length.ensures.out_after).1.1.0
+    c.run_points-length.ensures.result_value c.run_points-length.ensures.image_after c.run_points-length.ensures.memory_after
+    c.run_points-length.ensures.out_after).1.1.0

@@ -15,7 +15,8 @@ loop-i-preserved c =
     let x = c.args in
     turn x.draw (axes_in x.axes x.table.now) x.first x.count x.image.now x.memory.now x.out.now
     c.requires.count_in_bounds c.loop-i-test.true h
-    c.run_point-p.ensures.result_value c.run_point-p.ensures.image_after c.run_point-p.ensures.memory_after c.run_point-p.ensures.out_after (omega arith)
+    c.run_point-p.ensures.result_value c.run_point-p.ensures.image_after c.run_point-p.ensures.memory_after c.run_point-p.ensures.out_after
+    (omega arith)
 
 pub run_point-p-requires-clause-longest_in_bounds : goal.run_point-p-requires-clause-longest_in_bounds
 run_point-p-requires-clause-longest_in_bounds c =

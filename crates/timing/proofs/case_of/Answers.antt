@@ -42,4 +42,5 @@ pub returns : goal.returns
 unfolding case_of
 returns c =
     let x = c.args in
-    rw (c.if-s-n.false, c.if-n-end.false, c.if-s-n-2.false, c.if-n-end-2.false, c.if-s-n-3.false, c.if-s-end.false) (sym (cond_same (ltb 32 (x.s + x.n)) G))
+    rw (c.if-s-n.false, c.if-n-end.false, c.if-s-n-2.false, c.if-n-end-2.false, c.if-s-n-3.false, c.if-s-end.false)
+    (sym (cond_same (ltb 32 (x.s + x.n)) G))
