@@ -1,5 +1,4 @@
 -- A field ends within the line.
-use Rattle.std.proofs.Common.{arith}
 use Rattle.text.proofs.TextLaws.{part-end-le}
 use Rattle.programs.proofs.reason.stands_before.Goals as goal
 
