@@ -2,6 +2,6 @@
 -- The scope knows nothing of it. Assumes nothing.
 use Rattle.std.specs.Prelude.{ℕ}
 
--- `listing::BATCH`
+-- `listings::BATCH`
 abbrev pub most_points : ℕ
 most_points = 1024

@@ -11,9 +11,10 @@ mod faces;
 mod failure;
 mod help;
 mod input;
-mod listing;
+mod listings;
 mod output;
 mod point;
+mod point_values;
 mod progress;
 mod reader;
 mod reason;
@@ -22,7 +23,6 @@ mod sample;
 mod shown;
 mod stream;
 mod sweep;
-mod values;
 mod version;
 
 // sweep: see help.rt.

@@ -2,7 +2,7 @@
 // apart, the answer in words, what the drawing leaves, and what the window leaves of the array.
 use crate::output::Status;
 use crate::stream::Stream;
-use crate::{arguments, faces, input, listing, output, reason, stream, sweep, version};
+use crate::{arguments, faces, input, listings, output, reason, stream, sweep, version};
 use drawing::Outcome;
 use operation::Operation;
 use plan::{Plan, ROOM};
@@ -108,7 +108,7 @@ fn put_draw(out: &mut [u8], at: usize, draw: u64) -> usize {
 fn put_run(out: &mut [u8], at: usize, p: Plan, op: Operation, s: Settings, seed: u64) -> usize {
     let mut image = [0u16; names::PLAN_WORDS];
     let mut memory = [0u16; names::PLAN_WORDS];
-    let words = listing::words_of(p, &image, &memory);
+    let words = listings::words_of(p, &image, &memory);
     let ran = run(&mut image[0..words], &mut memory[0..words], op, s, seed);
     let o = ran.outcome;
     let time = fill_timing::fill_time(op, s, o.visited);

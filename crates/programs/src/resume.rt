@@ -7,7 +7,7 @@ use crate::arguments::FILE;
 use crate::output::Status;
 use crate::reader::{Piece, Reader};
 use crate::stream::Stream;
-use crate::{arguments, failure, input, listing, output, progress, reader, shown, stream};
+use crate::{arguments, failure, input, listings, output, progress, reader, shown, stream};
 use plan::Plan;
 use run::LINE;
 use std::fs::{File, OpenOptions};
@@ -51,7 +51,7 @@ pub fn go_on(rt: &HostRuntime, p: Plan, table: &[u64], first: u64, count: u64) -
     let part = Part {
         plan: p,
         first,
-        count: listing::asked_of(p, first, count),
+        count: listings::asked_of(p, first, count),
     };
     let mut space = [0u8; shown::PATH];
     let length = arguments::fill(rt, FILE, &mut space);
@@ -134,13 +134,13 @@ fn go_on_in(
     }
     let to = Stream::File(file);
     if held.bytes == 0 {
-        let status = listing::heading(rt, to, part.first);
+        let status = listings::heading(rt, to, part.first);
         if status != Status::Done {
             return status;
         }
     }
-    let before = listing::least(held.points, part.count);
-    listing::run_all(
+    let before = listings::least(held.points, part.count);
+    listings::run_all(
         rt, to, part.plan, table, part.first, part.count, before, image, memory,
     )
 }
@@ -526,7 +526,7 @@ fn is_own(
     memory: &mut [u16],
 ) -> bool {
     let mut out = [0u8; LINE];
-    let n = listing::own_line(p, table, point, &mut out, image, memory);
+    let n = listings::own_line(p, table, point, &mut out, image, memory);
     let length = output::within(n, &out);
     is_line(line, &out[..length])
 }
@@ -541,7 +541,7 @@ fn begins_line(
     memory: &mut [u16],
 ) -> bool {
     let mut out = [0u8; LINE];
-    let n = listing::own_line(p, table, point, &mut out, image, memory);
+    let n = listings::own_line(p, table, point, &mut out, image, memory);
     let length = output::within(n, &out);
     starts(&out[..length], torn)
 }

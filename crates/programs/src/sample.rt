@@ -3,7 +3,7 @@ use crate::arguments::Form;
 use crate::output::Status;
 use crate::reader::Piece;
 use crate::stream::Stream;
-use crate::{failure, listing, output, reader, shown, stream, values};
+use crate::{failure, listings, output, point_values, reader, shown, stream};
 use plan::Plan;
 use text::Number;
 
@@ -12,7 +12,7 @@ const INPUT: usize = 65536;
 
 // The heading, and a line for each number.
 pub fn list(rt: &HostRuntime, form: Form, p: Plan, table: &[u64]) -> Status {
-    let status = values::heading(rt, form, 0);
+    let status = point_values::heading(rt, form, 0);
     if status != Status::Done {
         return status;
     }
@@ -105,12 +105,12 @@ fn write(
     match form {
         Form::Results => {
             let mut space = [0u8; run::LINE];
-            let end = listing::own_line(p, table, point, &mut space, image, memory);
+            let end = listings::own_line(p, table, point, &mut space, image, memory);
             output::line(rt, Stream::Standard, end, &space)
         }
         _ => {
-            let mut space = [0u8; values::LINE];
-            let end = values::put(form, p.axes, table, point, &mut space, 0);
+            let mut space = [0u8; point_values::LINE];
+            let end = point_values::put(form, p.axes, table, point, &mut space, 0);
             output::line(rt, Stream::Standard, end, &space)
         }
     }

@@ -2,7 +2,9 @@
 use crate::arguments::{Asked, Form, Task};
 use crate::output::Status;
 use crate::stream::Stream;
-use crate::{arguments, help, input, listing, output, reason, resume, sample, values, version};
+use crate::{
+    arguments, help, input, listings, output, point_values, reason, resume, sample, version,
+};
 use plan::{Plan, ROOM, TEXT};
 
 // A byte more than a plan's text may have.
@@ -43,7 +45,7 @@ fn refused(rt: &HostRuntime, asked: Asked, text: &[u8], p: Plan) -> Status {
     let task = asked.task;
     let status = match task {
         Task::Points | Task::Resume => Status::Done,
-        _ => listing::refused(rt, asked.first, p),
+        _ => listings::refused(rt, asked.first, p),
     };
     if status != Status::Done {
         return status;
@@ -72,8 +74,8 @@ fn sampled(rt: &HostRuntime, asked: Asked, p: Plan, table: &[u64]) -> Status {
 fn listed(rt: &HostRuntime, asked: Asked, p: Plan, table: &[u64]) -> Status {
     let form = asked.form;
     match form {
-        Form::Results => listing::list(rt, p, table, asked.first, asked.count),
-        _ => values::list(rt, form, p, table, asked.first, asked.count),
+        Form::Results => listings::list(rt, p, table, asked.first, asked.count),
+        _ => point_values::list(rt, form, p, table, asked.first, asked.count),
     }
 }
 

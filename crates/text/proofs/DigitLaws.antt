@@ -35,8 +35,6 @@ fitting-value true v w e = go (ltb v (2 ^ 64)) refl e
 
 -- One digit more
 
-module _ (v c : ℕ) (low : digit0 ≤ c) (high : c ≤ digit9) where
-
 pub pushed-lt : (v c w : ℕ) → pushed v c ≡ Value w → w < 2 ^ 64
 pushed-lt v c w e = (fitting-value (is_digit c) (v * 10 + (c - digit0)) w e).2
 

@@ -5,7 +5,7 @@ ghost use Rattle.std.specs.Prelude.{◌+◌, ◌^◌, ◌<◌};
 use crate::arguments::Form;
 use crate::output::Status;
 use crate::stream::Stream;
-use crate::{listing, output};
+use crate::{listings, output};
 use plan::Plan;
 use put_lines::NUMBER;
 
@@ -56,7 +56,7 @@ pub fn list(
         p.axes,
         table,
         first,
-        listing::asked_of(p, first, count),
+        listings::asked_of(p, first, count),
     )
 }
 
@@ -73,7 +73,7 @@ fn write_all(
 {
     let mut done: u64 = 0;
     while done < count {
-        let n = listing::least(BATCH, count - done);
+        let n = listings::least(BATCH, count - done);
         let status = write_some(rt, form, axes, table, first + done, n);
         if status != Status::Done {
             return status;

@@ -1,7 +1,7 @@
 -- No more points are done than asked for, and the memories keep their sizes.
 use Rattle.std.proofs.Common.{◌-◌, ◌<◌, ◌≤◌, length}
 use Rattle.programs.specs.Batch.{most_points}
-use Rattle.programs.proofs.listing.run_all.Given as goal
+use Rattle.programs.proofs.listings.run_all.Given as goal
 
 abbrev pub invariant-loop-done : goal.invariant-loop-done
 invariant-loop-done l =

@@ -1,6 +1,6 @@
 -- The measure is the number of points left.
 use Rattle.std.proofs.Common.{◌-◌, ◌≤◌}
-use Rattle.programs.proofs.values.write_all.Given as goal
+use Rattle.programs.proofs.point_values.write_all.Given as goal
 
 abbrev pub invariant-loop-done : goal.invariant-loop-done
 invariant-loop-done l = l.done ≤ l.count
