@@ -1,4 +1,5 @@
 pub mod FootprintLaws
+pub mod CommuteLaws
 pub mod VisitLaws
 pub mod OrderLaws
 pub mod JobLaws

@@ -9,7 +9,7 @@ use native.Mathlib.Omega.{arith}
 use lib.Dec.{eqb, ltb}
 use Rattle.memory.specs.Bits.{Memory, bit_at}
 use Rattle.engine.specs.Engine.{visit}
-use Rattle.interleave.proofs.FootprintLaws.{commute, kept}
+use Rattle.interleave.proofs.CommuteLaws.{commute, kept}
 use Rattle.interleave.proofs.JobLaws.{Commuting}
 use Rattle.slices.specs.Demand3.{walk_of, pixels_of, Accepted, Writes, Setup}
 use Rattle.slices.proofs.CallLaws.{cond-eq, cond-ne, cond-lt, cond-le, number}

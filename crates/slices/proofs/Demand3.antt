@@ -6,7 +6,7 @@ use Prim.Native.Nat.{ℕ, zero, suc, ◌<◌}
 use native.Mathlib.Decide.{ℕ_discrete}
 use native.Mathlib.Omega.{arith}
 use Rattle.interleave.specs.Order.{Order}
-use Rattle.interleave.proofs.FootprintLaws.{apart-sym}
+use Rattle.interleave.proofs.CommuteLaws.{apart-sym}
 use Rattle.slices.specs.Calls.{Job, CallState, memory_left}
 use Rattle.slices.specs.Demand3.{Whole, Accepted, BitsApart, Setup, Done, reached, in_turn, AsWhole, two, OneThenOther, Demand3}
 use Rattle.slices.proofs.CallLaws.{memory-good}
