@@ -1,6 +1,7 @@
 -- The axis line (the scope, "Plans and images" and refusals 20 to 23), over the fields of a line.
 -- Assumes nothing.
-use Rattle.std.specs.Prelude.{Bool, true, cond, not, ◌||◌, List, [], ◌∷◌, map, ℕ, suc, min, eqb, ltb, leb, length, drop, set}
+use Rattle.std.specs.Prelude.{Bool, true, cond, not, ◌||◌, List, [], ◌∷◌, map, ℕ, suc, eqb, ltb, leb, length, drop, set}
+use Rattle.std.specs.Prelude.{Result, Ok, Err}
 use Rattle.lists.specs.Search.{any}
 use Rattle.text.specs.Text.{same}
 use Rattle.names.specs.Names.{name_count}
@@ -9,6 +10,8 @@ use Rattle.points.specs.OneToOne.{too_large, repeats}
 use Rattle.tabs.specs.Fields.{field_value, no_number}
 use Rattle.line.specs.Words.{axis_word}
 use Rattle.line.specs.Line.{name_of}
+use Rattle.answers.specs.declared.Refused.{Refused}
+use Rattle.answers.specs.declared.Refused.TheVariants.{Form, Name, Value, Count}
 use Rattle.axis.specs.declared.AxisLine.{AxisLine}
 
 -- `axis`, a name, then one or more values
@@ -38,27 +41,20 @@ bad_values a = too_large a || repeats a
 abbrev pub too_many : ℕ → Axis → Bool
 too_many axes a = leb most_axes axes || ltb most_values (axis_length a)
 
--- an axis line, where some names came before on so many axes: the lowest number that applies, or 0
-unfoldable pub line_refusal : (ℕ → Bool) → ℕ → List (List ℕ) → ℕ
-line_refusal came axes fields =
-    cond (bad_form fields) 20 (
-    cond (bad_name came (name_of fields)) 21 (
-    cond (bad_values (axis_of fields)) 22 (
-    cond (too_many axes (axis_of fields)) 23 0)))
-
--- what is handed back of it: the refusal, its name's number, and how many values it has, at most 64
-abbrev pub axis_line : (ℕ → Bool) → ℕ → List (List ℕ) → AxisLine
+-- an axis line, where some names came before on so many axes: the refusal with the lowest number
+-- that applies, or its name's number and how many values it has
+unfoldable pub axis_line : (ℕ → Bool) → ℕ → List (List ℕ) → Result AxisLine Refused
 axis_line came axes fields =
-    record {
-      refusal = line_refusal came axes fields;
-      name = name_of fields;
-      count = min most_values (axis_length (axis_of fields));
-    }
+    cond (bad_form fields) (Err Form) (
+    cond (bad_name came (name_of fields)) (Err Name) (
+    cond (bad_values (axis_of fields)) (Err Value) (
+    cond (too_many axes (axis_of fields)) (Err Count)
+    (Ok (record { name = name_of fields; count = axis_length (axis_of fields) })))))
 
 -- after these axes
-abbrev pub axis_refusal : List Axis → List (List ℕ) → ℕ
-axis_refusal axes fields =
-    line_refusal (λ name. any (λ (a : Axis). eqb a.name name) axes) (length axes) fields
+abbrev pub axis_after : List Axis → List (List ℕ) → Result AxisLine Refused
+axis_after axes fields =
+    axis_line (λ name. any (λ (a : Axis). eqb a.name name) axes) (length axes) fields
 
 -- numbers stored from an index on, as far as there is room
 unfoldable pub stored_at : ℕ → List ℕ → List ℕ → List ℕ

@@ -9,21 +9,20 @@ ghost use Rattle.tabs.specs.Fields.{no_number};
 ghost use Rattle.values.specs.Block.{values_from, BlockAt};
 ghost use Rattle.axis.specs.Axis.{values_of, bad_form, bad_name, axis_line, stored_at};
 
+use answers::Refused;
 use points::AXES;
-use values::{Block, FieldTest};
+use values::Block;
 
-// What an `axis` line is: 0 or its refusal, its name's number, and how many values it has, at most
-// 64.
+// What an `axis` line says: its name's number, and how many values it has.
 #[derive(Clone, Copy)]
 pub struct AxisLine {
-    pub refusal: u32,
     pub name: u64,
     pub count: u64,
 }
 
 // An `axis` line after so many axes, where these names came before. Its first 64 values are read
 // once.
-pub fn axis_of(line: &[u8], seen: [bool; names::COUNT], axes: u64) -> AxisLine
+pub fn axis_of(line: &[u8], seen: [bool; names::COUNT], axes: u64) -> Result<AxisLine, Refused>
     ensures { result
         ≡ axis_line (λ name. get_or seen name false) axes (fields_of line.now) }
 {
@@ -32,23 +31,23 @@ pub fn axis_of(line: &[u8], seen: [bool; names::COUNT], axes: u64) -> AxisLine
     let most = names::greatest(name);
     let b = values::block_at(line, values, most);
     let behind = b.behind;
-    let count = b.count as u64;
-    if bad_form(
-        line,
-        b.bad | values::any_field(line, behind, FieldTest::NoNumber),
-    ) {
-        return axis_line(20, name, count);
+    let bad = b.bad | values::any_no_number(line, behind);
+    if bad_form(line, bad) {
+        return Err(Refused::Form);
     }
     if bad_name(name, came(seen, name)) {
-        return axis_line(21, name, count);
+        return Err(Refused::Name);
     }
     if bad_values(line, values, most, b) {
-        return axis_line(22, name, count);
+        return Err(Refused::Value);
     }
     if too_many(axes, behind <= line.len()) {
-        return axis_line(23, name, count);
+        return Err(Refused::Count);
     }
-    axis_line(0, name, count)
+    Ok(AxisLine {
+        name,
+        count: b.count as u64,
+    })
 }
 
 // Stores the values of an `axis` line from an index on, as far as there is room. Hands back how
@@ -60,17 +59,15 @@ pub fn store_values(line: &[u8], table: &mut [u64], at: usize) -> u64
         table.new ≡ stored_at at values table.old }
 {
     let mut p = tabs::third_at(line);
-    let mut i = at;
-    while i < table.len() {
+    for i in at..table.len() {
         if line.len() < p {
             return (i - at) as u64;
         }
         let end = text::part_end(line, p, ascii::TAB);
         table[i] = tabs::field_value(&line[p..end]);
-        i += 1;
         p = end + 1;
     }
-    (i - at) as u64
+    table.len().saturating_sub(at) as u64
 }
 
 // 20: another form, an empty name, a value that is no number, as told.
@@ -81,8 +78,8 @@ fn bad_form(line: &[u8], bad: bool) -> bool
     if line.len() < tabs::third_at(line) {
         return true;
     }
-    let other = !text::same(text::part(line, 0, ascii::TAB), b"axis");
-    let empty = tabs::second(line).len() == 0;
+    let other = text::part(line, 0, ascii::TAB) != b"axis".as_slice();
+    let empty = tabs::second(line).is_empty();
     other | empty | bad
 }
 
@@ -97,10 +94,7 @@ fn bad_name(name: u64, came: bool) -> bool
 fn came(seen: [bool; names::COUNT], name: u64) -> bool
     ensures { result ≡ get_or seen name false }
 {
-    if names::COUNT as u64 <= name {
-        return false;
-    }
-    seen[name as usize]
+    seen.get(name as usize).copied().unwrap_or(false)
 }
 
 // 22: a value from a place on is above this one, or stands twice, where the first block of them is
@@ -116,9 +110,8 @@ fn bad_values(line: &[u8], from: usize, most: u64, b: Block) -> bool
     if b.above | values::any_same(&values[..count]) {
         return true;
     }
-    if values::any_field(line, behind, FieldTest::Above(most))
-        | values::any_among(line, behind, &values[..count])
-    {
+    let above = values::any_above(line, behind, most);
+    if above | values::any_among(line, behind, &values[..count]) {
         return true;
     }
     values::any_twice(line, behind)
@@ -129,15 +122,4 @@ fn too_many(axes: u64, left: bool) -> bool
     ensures { result ≡ (leb most_axes axes || left) }
 {
     (AXES <= axes) | left
-}
-
-// What is handed back of an `axis` line.
-fn axis_line(refusal: u32, name: u64, count: u64) -> AxisLine
-    ensures { result ≡ (record { refusal = refusal; name = name; count = count }) }
-{
-    AxisLine {
-        refusal,
-        name,
-        count,
-    }
 }

@@ -55,17 +55,14 @@ changed_in-later line =
 -- The same bytes, and a byte behind both
 
 same_none : (c : ℕ) (a : List ℕ) → same [] (a ++ (c ∷ [])) ≡ false
-unfolding same
 same_none c [] = refl
 same_none c (d ∷ a) = refl
 
 none-same : (c : ℕ) (a : List ℕ) → same (a ++ (c ∷ [])) [] ≡ false
-unfolding same
 none-same c [] = refl
 none-same c (d ∷ a) = refl
 
 same-behind : (c : ℕ) (a b : List ℕ) → same (a ++ (c ∷ [])) (b ++ (c ∷ [])) ≡ same a b
-unfolding same
 same-behind c [] [] = rw (eq-eqb c c refl)
 same-behind c [] (d ∷ b) = rw (same_none c b) (and-false (eqb c d))
 same-behind c (d ∷ a) [] = rw (none-same c a) (and-false (eqb d c))

@@ -64,7 +64,7 @@ fn is_line(line: &[u8], point: u64, ran: Ran) -> bool
     let numbers = [point, answer, ran.visited, v, ran.changed, ran.states];
     let mut text = [0u8; run::LINE];
     let end = put_lines::numbers(&mut text, 0, &numbers) - 1;
-    text::same(line, &text[..end])
+    line == &text[..end]
 }
 
 // Can a line be that of a point with these values?

@@ -49,5 +49,5 @@ fn size_of(n: u64) -> u64
 fn is_pair(line: &[u8], word: &[u8]) -> bool
     ensures { result ≡ is_pair word.now (fields_of line.now) }
 {
-    (tabs::count(line, 0) == 2) & text::same(text::part(line, 0, ascii::TAB), word)
+    (tabs::count(line, 0) == 2) & (text::part(line, 0, ascii::TAB) == word)
 }

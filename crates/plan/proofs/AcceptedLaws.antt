@@ -7,6 +7,7 @@ use native.Mathlib.Omega.{arith}
 use borrow.Author.Tests.{eqb-false, ltb-true, leb-true}
 use lib.Dec.{eqb, ltb, leb}
 use lib.ListN.{length}
+use Rattle.answers.specs.Answer.{answer}
 use Rattle.text.specs.Text.{lines_of, fields_of, same}
 use Rattle.names.specs.Drawings.{drawing_count}
 use Rattle.names.specs.Limits.{plan_words}
@@ -15,7 +16,7 @@ use Rattle.points.specs.OneToOne.{Sound}
 use Rattle.line.specs.Words.{memory_word}
 use Rattle.tabs.specs.Fields.{field_value}
 use Rattle.line.specs.Line.{memory_of, draw_of}
-use Rattle.axis.specs.Axis.{axis_of, axis_refusal}
+use Rattle.axis.specs.Axis.{axis_of, axis_after}
 use Rattle.plan.specs.Reading.{Line, kept_lines, Reading, text_limit, read_axes, read_draw, read_memory, reading}
 use Rattle.lists.proofs.TestLaws.{cond_both}
 use Rattle.plan.proofs.SoundLaws.{reading-sound}
@@ -54,7 +55,7 @@ axis_lines-keeps words draw axes [] = λ e. (refl, refl)
 axis_lines-keeps words draw axes (l ∷ []) =
     cond_both (Where (Keeps words draw)) (eqb (length l.bytes) 0) _ _ (λ q e. (refl, refl)) (λ q e. absurd (omega arith))
 axis_lines-keeps words draw axes (l ∷ m ∷ ls) =
-    cond_both (Where (Keeps words draw)) (eqb (axis_refusal axes (fields_of l.bytes)) 0) _ _
+    cond_both (Where (Keeps words draw)) (eqb (answer (axis_after axes (fields_of l.bytes))) 0) _ _
     (λ q. axis_lines-keeps words draw (axes ++ (axis_of (fields_of l.bytes) ∷ [])) (m ∷ ls)) (λ q e. absurd (eqb-false _ _ q e))
 
 -- the draw line keeps the words, and has one of the eight drawings

@@ -1,19 +1,24 @@
 -- What is known of an axis line that is not refused. No contract cites this file. Assumes nothing.
-use mathlib.Core.Path.{◌≡◌}
-use mathlib.Core.Bool.{Bool, false, true≢false}
+use mathlib.Core.Path.{◌≡◌, refl, ◌∙◌}
+use mathlib.Core.Bool.{Bool, true, false, true≢false, cond}
 use mathlib.Core.List.{List, [], ◌∷◌}
 use Prim.Native.Nat.{ℕ, ◌<◌, ◌≤◌}
 use native.Mathlib.Omega.{arith}
 use borrow.Author.Tests.{ltb-false, leb-false}
 use lib.Dec.{eqb}
 use lib.ListN.{length}
+use Rattle.std.specs.Prelude.{Result, Ok, Err}
+use Rattle.answers.specs.Answer.{answer, refusal_number}
+use Rattle.answers.specs.declared.Refused.{Refused}
+use Rattle.answers.specs.declared.Refused.TheVariants.{Form, Name, Value, Count}
+use Rattle.axis.specs.declared.AxisLine.{AxisLine}
 use Rattle.lists.specs.Search.{any}
 use Rattle.lists.proofs.TestLaws.{or-eq-false, cond-zero}
 use Rattle.names.specs.Names.{name_count}
 use Rattle.points.specs.Axes.{Axis, axis_length, most_axes, most_values}
 use Rattle.points.specs.OneToOne.{too_large, repeats}
 use Rattle.line.specs.Line.{name_of}
-use Rattle.axis.specs.Axis.{values_of, axis_of, bad_form, bad_name, bad_values, too_many, line_refusal, axis_refusal}
+use Rattle.axis.specs.Axis.{values_of, axis_of, bad_form, bad_name, bad_values, too_many, axis_line, axis_after}
 
 -- the line's name is known and new, and its values are few, all different and below the name's limit
 pub record Good (came : ℕ → Bool) (axes : ℕ) (fields : List (List ℕ)) : Type 0 where
@@ -32,13 +37,37 @@ some-values (word ∷ []) e = absurd (true≢false e)
 some-values (word ∷ name ∷ []) e = absurd (true≢false e)
 some-values (word ∷ name ∷ v ∷ vs) e = omega arith
 
-pub good : (came : ℕ → Bool) (axes : ℕ) (fields : List (List ℕ)) → line_refusal came axes fields ≡ 0 → Good came axes fields
-unfolding line_refusal
+-- a test that is passed, and what is left of the line where all are
+answer-cond : {A : Type 0} (b : Bool) (r : Refused) (x : Result A Refused)
+    → cond b (refusal_number r) (answer x) ≡ answer (cond b (Err r) x)
+answer-cond true r x = refl
+answer-cond false r x = refl
+
+passed : {A : Type 0} (b : Bool) (r : Refused) (x : Result A Refused) → (refusal_number r ≡ 0 → ⊥) → answer (cond b (Err r) x) ≡ 0
+    → (b ≡ false) × (answer x ≡ 0)
+passed b r x n e = cond-zero b n (answer-cond b r x ∙ e)
+
+cond-ok : {A : Type 0} (b : Bool) (r : Refused) {x : Result A Refused} {a : A} → cond b (Err r) x ≡ Ok a → x ≡ Ok a
+cond-ok true r e = let z : ◌≡◌ {A = ℕ} 0 1 = cc in absurd (omega arith)
+cond-ok false r e = e
+
+pub taken-is : (came : ℕ → Bool) (axes : ℕ) (fields : List (List ℕ)) (a : AxisLine) → axis_line came axes fields ≡ Ok a
+    → record { name = name_of fields; count = axis_length (axis_of fields) } ≡ a
+unfolding axis_line
+taken-is came axes fields a e =
+    let form = cond-ok (bad_form fields) Form e in
+    let named = cond-ok (bad_name came (name_of fields)) Name form in
+    let valued = cond-ok (bad_values (axis_of fields)) Value named in
+    let many = cond-ok (too_many axes (axis_of fields)) Count valued in
+    cc
+
+pub good : (came : ℕ → Bool) (axes : ℕ) (fields : List (List ℕ)) → answer (axis_line came axes fields) ≡ 0 → Good came axes fields
+unfolding axis_line
 good came axes fields e =
-    let (form, e21) = cond-zero (bad_form fields) (λ z. omega arith) e in
-    let (named, e22) = cond-zero (bad_name came (name_of fields)) (λ z. omega arith) e21 in
-    let (valued, e23) = cond-zero (bad_values (axis_of fields)) (λ z. omega arith) e22 in
-    let (many, e24) = cond-zero (too_many axes (axis_of fields)) (λ z. omega arith) e23 in
+    let (form, e21) = passed (bad_form fields) Form _ (λ z. omega arith) e in
+    let (named, e22) = passed (bad_name came (name_of fields)) Name _ (λ z. omega arith) e21 in
+    let (valued, e23) = passed (bad_values (axis_of fields)) Value _ (λ z. omega arith) e22 in
+    let (many, e24) = passed (too_many axes (axis_of fields)) Count _ (λ z. omega arith) e23 in
     let (unknown, new) = or-eq-false _ _ named in
     let (below, once) = or-eq-false _ _ valued in
     let (axes8, values64) = or-eq-false _ _ many in
@@ -60,5 +89,5 @@ came_on axes name = any (λ (a : Axis). eqb a.name name) axes
 abbrev pub GoodOn : List Axis → List (List ℕ) → Type 0
 GoodOn axes fields = Good (came_on axes) (length axes) fields
 
-pub good-on : (axes : List Axis) (fields : List (List ℕ)) → axis_refusal axes fields ≡ 0 → GoodOn axes fields
+pub good-on : (axes : List Axis) (fields : List (List ℕ)) → answer (axis_after axes fields) ≡ 0 → GoodOn axes fields
 good-on axes fields = good (came_on axes) (length axes) fields

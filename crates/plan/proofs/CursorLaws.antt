@@ -6,7 +6,7 @@ use Prim.Native.Nat.{ℕ, ◌+◌, ◌<◌, ◌≤◌}
 use native.Mathlib.Nat.{add-zero}
 use native.Mathlib.Numerals.{add-one}
 use native.Mathlib.Omega.{arith}
-use borrow.Author.Tests.{ltb-true, lt-ltb, le-ltb}
+use borrow.Author.Tests.{ltb-true, lt-ltb}
 use lib.Dec.{eqb}
 use lib.ListN.{length, get_or, drop}
 use lib.Seq.{get_or-drop}
@@ -96,9 +96,6 @@ some-behind text c = lines-some text (c.end + 1) (c.line + 1)
 module _ {text : List ℕ} {from number : ℕ} {c : Cursor} (n : NextLine text from number c) where
   -- a line that is ended: it, and the lines behind it
   module _ (ended : c.end < length text) where
-    pub next_place : PositionIn text (c.end + 1) (c.line + 1)
-    next_place = record { within = omega arith; numbered = omega (arith, n.reached.place.numbered, n.reached.ends) }
-
     pub next-line : {line : List ℕ} → line ≡ line_at text c.at → lines_from text from number ≡ line_of c line ∷ lines_behind text c
     next-line is = n.reached.lines ∙ rw is (lines_keep text c.at c.end c.line n.reached.ends ended n.stays)
 

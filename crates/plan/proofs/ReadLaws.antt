@@ -3,14 +3,11 @@
 use mathlib.Core.Path.{◌≡◌}
 use mathlib.Core.Bool.{true, false}
 use mathlib.Core.List.{List}
-use Prim.Native.Nat.{ℕ, ◌+◌, ◌-◌, ◌<◌}
+use Prim.Native.Nat.{ℕ}
 use native.Mathlib.Omega.{arith}
-use lib.ListN.{length}
-use Rattle.plan.specs.declared.Cursor.{Cursor}
 use Rattle.plan.specs.declared.State.{State}
-use Rattle.plan.specs.Cursor.{PositionIn, NextLine}
-use Rattle.plan.specs.State.{nothing_read, LinesRead, PlanRead, LineRead}
-use Rattle.plan.proofs.CursorLaws.{next_place}
+use Rattle.plan.specs.Cursor.{PositionIn}
+use Rattle.plan.specs.State.{nothing_read, LinesRead, PlanRead}
 use Rattle.plan.proofs.TurnLaws.{reads_none}
 
 -- While another line is wanted, the lines before the reader's place are read; else all that decide

@@ -7,10 +7,11 @@ use native.Mathlib.Omega.{arith}
 use borrow.Author.Tests.{eq-eqb, ne_eqb, lt-ltb, le-ltb}
 use lib.Dec.{eqb}
 use lib.ListN.{length}
+use Rattle.answers.specs.Answer.{answer}
 use Rattle.text.specs.Text.{in_front, parts, fields_of}
 use Rattle.points.specs.Axes.{Axis}
 use Rattle.line.specs.Line.{memory_of, draw_of}
-use Rattle.axis.specs.Axis.{axis_of, axis_refusal}
+use Rattle.axis.specs.Axis.{axis_of, axis_after}
 use Rattle.plan.specs.Reading.{Line, skipped, kept_lines, accepted_reading, refused_at, read_axes, read_draw, read_memory}
 use Rattle.lists.proofs.TestLaws.{cond_both}
 
@@ -94,13 +95,13 @@ module _ (words draw : ℕ) (axes : List Axis) (l : Line) where
   unfolding read_axes
   axes-last n = rw (ne_eqb _ _ n)
 
-  pub axes-bad : (ls : List Line) → 0 < length ls → (axis_refusal axes (fields_of l.bytes) ≡ 0 → ⊥)
-      → read_axes words draw axes (l ∷ ls) ≡ refused_at (axis_refusal axes (fields_of l.bytes)) l.number
+  pub axes-bad : (ls : List Line) → 0 < length ls → (answer (axis_after axes (fields_of l.bytes)) ≡ 0 → ⊥)
+      → read_axes words draw axes (l ∷ ls) ≡ refused_at (answer (axis_after axes (fields_of l.bytes))) l.number
   unfolding read_axes
   axes-bad [] h n = absurd (omega arith)
   axes-bad (m ∷ ls) h n = rw (ne_eqb _ _ n)
 
-  pub axes-next : (ls : List Line) → 0 < length ls → axis_refusal axes (fields_of l.bytes) ≡ 0
+  pub axes-next : (ls : List Line) → 0 < length ls → answer (axis_after axes (fields_of l.bytes)) ≡ 0
       → read_axes words draw axes (l ∷ ls) ≡ read_axes words draw (axes ++ (axis_of (fields_of l.bytes) ∷ [])) ls
   unfolding read_axes
   axes-next [] h e = absurd (omega arith)

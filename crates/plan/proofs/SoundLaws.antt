@@ -7,6 +7,7 @@ use native.Mathlib.Omega.{arith}
 use borrow.Author.Tests.{lt-leb, le-ltb, ne_eqb, eqb-true}
 use lib.Dec.{eqb, ltb}
 use lib.ListN.{length, length-append}
+use Rattle.answers.specs.Answer.{answer}
 use Rattle.lists.specs.Search.{any, any_pair}
 use Rattle.lists.proofs.TestLaws.{cond_both, eqb_comm}
 use Rattle.lists.proofs.SearchLaws.{any_snoc, any_none, any_pair-snoc}
@@ -14,7 +15,7 @@ use Rattle.text.specs.Text.{lines_of, fields_of}
 use Rattle.points.specs.Axes.{Axis, axis_length}
 use Rattle.points.specs.OneToOne.{unknown, same_name, bad_length, too_large, repeats, Sound}
 use Rattle.line.specs.Line.{memory_of, draw_of, name_of}
-use Rattle.axis.specs.Axis.{axis_of, axis_refusal}
+use Rattle.axis.specs.Axis.{axis_of, axis_after}
 use Rattle.plan.specs.Reading.{Line, kept_lines, Reading, text_limit, read_axes, read_draw, read_memory, reading}
 use Rattle.plan.proofs.AxisLaws.{GoodOn, good-on}
 
@@ -50,7 +51,7 @@ unfolding read_axes
 axis_lines-sound words draw axes [] s = s
 axis_lines-sound words draw axes (l ∷ []) s = cond_both SoundReading (eqb (length l.bytes) 0) _ _ (λ e. s) (λ e. sound_none)
 axis_lines-sound words draw axes (l ∷ m ∷ ls) s =
-    cond_both SoundReading (eqb (axis_refusal axes (fields_of l.bytes)) 0) _ _
+    cond_both SoundReading (eqb (answer (axis_after axes (fields_of l.bytes))) 0) _ _
     (λ e. axis_lines-sound words draw (axes ++ (axis_of (fields_of l.bytes) ∷ [])) (m ∷ ls)
     (sound-next s (good-on axes _ (eqb-true _ _ e)))) (λ e. sound_none)
 

@@ -10,6 +10,7 @@ use borrow.Author.Tests.{eqb-true, eqb-false}
 use lib.Dec.{eqb}
 use lib.ListN.{length, get_or, set, take, replicate, length-set, length-append}
 use lib.Seq.{get_or-set_same, get_or-set_other, take-suc-set}
+use Rattle.answers.specs.Answer.{answer}
 use Rattle.lists.specs.Search.{any}
 use Rattle.lists.proofs.SearchLaws.{any_snoc}
 use Rattle.names.specs.Names.{name_count}
@@ -17,7 +18,7 @@ use Rattle.points.specs.Axes.{Axis, axis_length, most_values, count}
 use Rattle.points.proofs.PointsLaws.{count-le}
 use Rattle.text.specs.Text.{fields_of}
 use Rattle.line.specs.Line.{name_of}
-use Rattle.axis.specs.Axis.{axis_of, line_refusal, axis_refusal}
+use Rattle.axis.specs.Axis.{axis_of, axis_line, axis_after}
 use Rattle.plan.specs.declared.State.{State}
 use Rattle.plan.specs.Table.{accepted_plan}
 use Rattle.plan.specs.Cursor.{line_at}
@@ -63,8 +64,8 @@ holds-going words draw h =
 -- The refusal of an axis line
 
 pub held_refusal-is : {text : List ℕ} {axes : List Axis} {s : State} (fields : List (List ℕ)) → HoldsAxes text axes s
-    → held_refusal s fields ≡ axis_refusal axes fields
-unfolding line_refusal
+    → held_refusal s fields ≡ answer (axis_after axes fields)
+unfolding axis_line
 held_refusal-is fields h = rw (h.seen-is (name_of fields), h.axes-is)
 
 -- An axis more
@@ -91,7 +92,7 @@ axes_from-set : (text starts : List ℕ) (n at : ℕ) → n < length starts
 axes_from-set text starts n at h = rw (add-one n, take-suc-set starts n at h) (map_snoc _ (take n starts) at)
 
 pub holds-next : {text : List ℕ} {axes : List Axis} {s : State} (fields : List (List ℕ)) (at : ℕ) → fields ≡ fields_of (line_at text at)
-    → HoldsAxes text axes s → axis_refusal axes fields ≡ 0
+    → HoldsAxes text axes s → answer (axis_after axes fields) ≡ 0
     → HoldsAxes text (axes ++ (axis_of fields ∷ [])) (held_after s (name_of fields) (axis_length (axis_of fields)) at)
 holds-next {text} {axes} {s} fields at is h e =
     let g = good-on axes fields e in

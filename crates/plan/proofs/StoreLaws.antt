@@ -5,7 +5,7 @@ use Prim.Native.Nat.{ℕ, suc, ◌+◌, ◌<◌, ◌≤◌}
 use native.Mathlib.Numerals.{add-one}
 use native.Mathlib.Omega.{arith}
 use lib.ListN.{length, get_or, take, drop, length-map, length-append, take-append-drop, get_or-map}
-use lib.Seq.{length-take-le, take-suc, drop-cons, get_or-take, take_all}
+use lib.Seq.{length-take-le, take-suc, drop-cons}
 use Rattle.text.specs.Text.{fields_of}
 use Rattle.points.specs.Axes.{Axis}
 use Rattle.points.specs.Table.{entry_of, table_of}
@@ -59,10 +59,13 @@ module _ {text t starts : List ℕ} {axes : ℕ} where
     same-table = ap length i.table_is ∙ length-stored (take k plan-axes) t (omega (arith, i.room, all_fit, apart))
 
     -- the next one is that of the line at its place
-    module _ (more : k < axes) (line : List ℕ) (is : line ≡ line_at text (get_or starts k 0)) where
+    module _ (index : k < length (take axes starts)) (line : List ℕ) (is : line ≡ line_at text (get_or (take axes starts) k 0)) where
+      more : k < axes
+      more = omega (arith, index, length-take-le axes starts (omega (arith, i.starts-at.few, i.starts-at.size)))
+
       axis-is : axis_of (fields_of line) ≡ get_or plan-axes k no-axis
       axis-is =
-          ap (λ (l : List ℕ). axis_of (fields_of l)) (is ∙ ap (line_at text) (sym (get_or-take axes starts k 0 more)))
+          ap (λ (l : List ℕ). axis_of (fields_of l)) is
           ∙ sym (ap (λ (l : List Axis). get_or l k no-axis) i.starts-at.axes-are
           ∙ get_or-map (λ at. axis_of (fields_of (line_at text at))) (take axes starts) k 0)
 

@@ -1,12 +1,13 @@
 -- The reading of a plan's text (the scope, "Plans and images"): the first bad line decides. Assumes
 -- nothing.
 use Rattle.std.specs.Prelude.{Bool, true, cond, List, [], ◌∷◌, ◌++◌, ℕ, suc, eqb, ltb, length}
+use Rattle.answers.specs.Answer.{answer}
 use Rattle.ascii.specs.Ascii.{hash}
 use Rattle.names.specs.Drawings.{drawing_count}
 use Rattle.text.specs.Text.{lines_of, fields_of}
 use Rattle.points.specs.Axes.{Axis}
 use Rattle.line.specs.Line.{memory_of, draw_of}
-use Rattle.axis.specs.Axis.{axis_of, axis_refusal}
+use Rattle.axis.specs.Axis.{axis_of, axis_after}
 
 -- a line and its number; lines count from 1, skipped ones too
 pub record Line : Type 0 where
@@ -51,9 +52,9 @@ read_axes words draw axes (rest ∷ []) =
     (accepted_reading words draw axes)
     (refused_at 20 rest.number)
 read_axes words draw axes (l ∷ m ∷ ls) =
-    cond (eqb (axis_refusal axes (fields_of l.bytes)) 0)
+    cond (eqb (answer (axis_after axes (fields_of l.bytes))) 0)
     (read_axes words draw (axes ++ (axis_of (fields_of l.bytes) ∷ [])) (m ∷ ls))
-    (refused_at (axis_refusal axes (fields_of l.bytes)) l.number)
+    (refused_at (answer (axis_after axes (fields_of l.bytes))) l.number)
 
 -- then the draw line; a missing one is 20 at the line after the last one, and one that is not ended
 -- 20 at its own: the same number

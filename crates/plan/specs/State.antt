@@ -1,5 +1,6 @@
 -- What is held of the lines read so far. The scope knows nothing of it. Assumes nothing.
 use Rattle.std.specs.Prelude.{◌≡◌, Bool, true, false, cond, ◌||◌, List, [], map, ℕ, ◌+◌, ◌*◌, ◌<◌, ◌≤◌, eqb, ltb, length, get_or, set, take, replicate}
+use Rattle.answers.specs.Answer.{answer}
 use Rattle.lists.specs.Search.{any}
 use Rattle.names.specs.Names.{name_count}
 use Rattle.names.specs.Drawings.{drawing_count}
@@ -7,7 +8,7 @@ use Rattle.points.specs.Axes.{Axis, axis_length, most_axes, count}
 use Rattle.points.specs.OneToOne.{Sound}
 use Rattle.text.specs.Text.{fields_of}
 use Rattle.line.specs.Line.{name_of}
-use Rattle.axis.specs.Axis.{axis_of, line_refusal}
+use Rattle.axis.specs.Axis.{axis_of, axis_line}
 use Rattle.plan.specs.declared.Plan.{Plan}
 use Rattle.plan.specs.declared.Cursor.{Cursor}
 use Rattle.plan.specs.declared.State.{State}
@@ -55,7 +56,8 @@ after_end s left line =
 -- An axis line of these fields: its refusal, or an axis more, whose line starts at a place
 
 abbrev pub held_refusal : State → List (List ℕ) → ℕ
-held_refusal s fields = line_refusal (λ name. get_or s.seen name false) s.plan.axes fields
+held_refusal s fields =
+    answer (axis_line (λ name. get_or s.seen name false) s.plan.axes fields)
 
 abbrev pub held_after : State → ℕ → ℕ → ℕ → State
 held_after s name n at =

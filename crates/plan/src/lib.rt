@@ -83,7 +83,7 @@ struct State {
 }
 
 // The first pass: one reader is carried through its text, and each line that is not skipped is
-// taken in.
+// taken in. What the last one makes of the state ends the loop, and no count.
 fn read_lines(text: &[u8]) -> State
     requires { length text.now ≤ text_limit }
     ensures { PlanRead text.now result }
@@ -130,7 +130,8 @@ fn behind<'a>(r: Reader<'a>, c: Cursor) -> Reader<'a>
     }
 }
 
-// The work: the lines from a place on are passed while they are skipped ones.
+// The work: the lines from a place on are passed while they are skipped ones. A loop by places of
+// the text, since the line's place and number are handed back.
 fn line_from(text: &[u8], from: usize, number: u64) -> Cursor
     requires { PositionIn text.now from number }
     ensures { NextLine text.now from number result }
@@ -168,11 +169,9 @@ fn store_axes(text: &[u8], table: &mut [u64], starts: [usize; 8], axes: u64)
         ≡ stored_axes (reading_of text.now).axes table.old }
 {
     let mut used = 0;
-    let mut k: u64 = 0;
-    while k < axes {
-        let line = text::part(text, starts[k as usize], ascii::LINE_END);
+    for at in &starts[..axes as usize] {
+        let line = text::part(text, *at, ascii::LINE_END);
         used = store_axis(line, table, used);
-        k += 1;
     }
 }
 
@@ -256,11 +255,10 @@ fn with_axis(s: State, line: &[u8], c: Cursor) -> State
 {
     let plan = s.plan;
     let seen = s.seen;
-    let a = axis::axis_of(line, seen, plan.axes);
-    if a.refusal != 0 {
-        return shut(s, refused(a.refusal, c.line));
+    match axis::axis_of(line, seen, plan.axes) {
+        Ok(a) => with_values(s, a.name, a.count, c.at),
+        Err(r) => shut(s, refused(u32::from(r), c.line)),
     }
-    with_values(s, a.name, a.count, c.at)
 }
 
 // With an axis more, of a name and so many values, whose line starts at a place.

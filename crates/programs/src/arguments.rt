@@ -3,7 +3,6 @@ ghost use Rattle.std.specs.Prelude.{◌≤◌, length};
 
 use crate::{output, shown, stream};
 use std::env::{Env, FillError};
-use text::Number;
 
 // What is to be done: some lines written, the points counted, the points that standard input
 // names, a file gone on with; help and version; nothing, where the arguments are bad.
@@ -141,10 +140,10 @@ fn part(rt: &HostRuntime, a: Asked, from: usize) -> Asked {
 fn numbered(rt: &HostRuntime, a: Asked, from: usize) -> Asked {
     let task = a.task;
     let form = a.form;
-    let Number::Value(first) = number(rt, from) else {
+    let Some(first) = number(rt, from) else {
         return bad(rt, b"sweep: FIRST isn't a decimal number below 2^64\n");
     };
-    let Number::Value(count) = number_behind(rt, from) else {
+    let Some(count) = number_behind(rt, from) else {
         return bad(rt, b"sweep: COUNT isn't a decimal number below 2^64\n");
     };
     Asked {
@@ -198,7 +197,7 @@ pub fn count(rt: &HostRuntime) -> usize {
 pub fn is(rt: &HostRuntime, i: usize, word: &[u8]) -> bool {
     let mut space = [0u8; shown::PATH];
     let length = fill(rt, i, &mut space);
-    text::same(&space[..length], word)
+    &space[..length] == word
 }
 
 // Does the argument begin with -, and is more than that?
@@ -209,15 +208,15 @@ pub fn is_option(rt: &HostRuntime, i: usize) -> bool {
 }
 
 // The argument as a number, and the one behind it.
-pub fn number(rt: &HostRuntime, i: usize) -> Number {
+pub fn number(rt: &HostRuntime, i: usize) -> Option<u64> {
     let mut space = [0u8; shown::PATH];
     let length = fill(rt, i, &mut space);
     text::parse(&space[..length])
 }
 
-fn number_behind(rt: &HostRuntime, i: usize) -> Number {
+fn number_behind(rt: &HostRuntime, i: usize) -> Option<u64> {
     if i == usize::MAX {
-        return Number::Bad;
+        return None;
     }
     number(rt, i + 1)
 }

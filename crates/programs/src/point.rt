@@ -7,7 +7,6 @@ use drawing::Outcome;
 use operation::Operation;
 use plan::{Plan, ROOM};
 use settings::Settings;
-use text::Number;
 
 // All that is told of a point has fewer bytes.
 const SPACE: usize = 8192;
@@ -29,7 +28,7 @@ pub fn told(rt: &HostRuntime) -> Status {
     if arguments::is_option(rt, 1) {
         return error(rt, b"point: unknown option (see point --help)\n");
     }
-    let Number::Value(point) = arguments::number(rt, 2) else {
+    let Some(point) = arguments::number(rt, 2) else {
         return error(rt, b"point: N isn't a decimal number below 2^64\n");
     };
     over_plan(rt, point)

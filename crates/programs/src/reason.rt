@@ -86,7 +86,7 @@ fn line_start(text: &[u8], line: u64) -> usize {
 // The first value of an `axis` line that is no number, or is too large for its name or stands
 // before.
 fn put_value(out: &mut [u8], at: usize, line: &[u8], is_form: bool) -> usize {
-    if !text::same(text::part(line, 0, ascii::TAB), b"axis") {
+    if text::part(line, 0, ascii::TAB) != b"axis".as_slice() {
         return at;
     }
     let place = fault_at(line, tabs::third_at(line), is_form);

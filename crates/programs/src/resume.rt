@@ -281,7 +281,7 @@ fn is_line(line: &[u8], whole: &[u8]) -> bool {
         return false;
     }
     let n = whole.len() - 1;
-    text::same(line, &whole[0..n])
+    line == &whole[0..n]
 }
 
 // A file that has a part of the heading only.
@@ -301,7 +301,7 @@ fn starts(line: &[u8], bytes: &[u8]) -> bool {
     if line.len() <= n {
         return false;
     }
-    text::same(&line[0..n], bytes)
+    &line[0..n] == bytes
 }
 
 // What is known behind a line: is there more, and if not, what the file holds; the reader, the

@@ -5,7 +5,6 @@ use crate::reader::Piece;
 use crate::stream::Stream;
 use crate::{failure, listings, output, point_values, reader, shown, stream};
 use plan::Plan;
-use text::Number;
 
 // No line of input is longer than so many bytes.
 const INPUT: usize = 65536;
@@ -69,13 +68,8 @@ fn list_one(
     memory: &mut [u16],
 ) -> Status {
     match text::parse(word) {
-        Number::Value(point) => {
-            if point < p.points {
-                return write(rt, form, p, table, point, image, memory);
-            }
-            no_point(rt, line, word)
-        }
-        Number::Bad => no_point(rt, line, word),
+        Some(point) if point < p.points => write(rt, form, p, table, point, image, memory),
+        _ => no_point(rt, line, word),
     }
 }
 

@@ -4,7 +4,6 @@ ghost use Rattle.std.specs.Io.{ReadsAtMost, WritesAtMost};
 use std::fs::{File, OpenOptions};
 use std::io::{IsTerminal, Read, Seek, SeekFrom, Write};
 use std::{fs, io};
-use text::Number;
 
 // Standard input where it is read, and standard output where it is written; or a file.
 #[derive(Clone, Copy)]
@@ -101,8 +100,5 @@ fn is_place(rt: &HostRuntime, place: u64) -> bool {
         return false;
     };
     let line = text::part(&told[..n], 0, ascii::LINE_END);
-    match text::parse(tabs::second(line)) {
-        Number::Value(at) => at == place,
-        Number::Bad => false,
-    }
+    text::parse(tabs::second(line)) == Some(place)
 }

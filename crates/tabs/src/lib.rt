@@ -5,11 +5,8 @@ ghost use Rattle.std.specs.Prelude.{◌≡◌, [], ◌+◌, ◌≤◌, length, g
 ghost use Rattle.lists.specs.Search.{first};
 ghost use Rattle.ascii.specs.Ascii.{tab};
 ghost use Rattle.text.specs.Text.{fields_of, same};
-ghost use Rattle.text.specs.Number.{value_of, is_bad};
 ghost use Rattle.text.specs.Part.{PartOf};
 ghost use Rattle.tabs.specs.Fields.{fields_from, behind, third_at, field_value, no_number};
-
-use text::Number;
 
 // The second field, as that part of the line: empty where there is none.
 pub fn second(line: &[u8]) -> &[u8]
@@ -30,64 +27,34 @@ pub fn third_at(line: &[u8]) -> usize
 pub fn count(line: &[u8], from: usize) -> u64
     ensures { result ≡ length (fields_from line.now from) }
 {
-    let mut n: u64 = 0;
-    let mut p = from;
-    while p <= line.len() {
-        n += 1;
-        p = text::part_end(line, p, ascii::TAB) + 1;
-    }
-    n
+    let Some(rest) = line.get(from..) else {
+        return 0;
+    };
+    rest.split(|c| *c == ascii::TAB).count() as u64
 }
 
 // Which field of a list, from 0, is the same as this word: as many as there are where none is.
 pub fn index_of(list: &[u8], word: &[u8]) -> u64
     ensures { result ≡ first (same word.now) (fields_of list.now) }
 {
-    let mut n: u64 = 0;
-    let mut p = 0;
-    while p <= list.len() {
-        let end = text::part_end(list, p, ascii::TAB);
-        if text::same(word, &list[p..end]) {
-            return n;
-        }
-        n += 1;
-        p = end + 1;
+    match list.split(|c| *c == ascii::TAB).position(|f| word == f) {
+        Some(n) => n as u64,
+        None => count(list, 0),
     }
-    n
 }
 
 // A field as a number: 0 where it is none.
 pub fn field_value(field: &[u8]) -> u64
     ensures { result ≡ field_value field.now }
 {
-    value_of(text::parse(field))
+    text::parse(field).unwrap_or(0)
 }
 
 // Is a field no number?
 pub fn no_number(field: &[u8]) -> bool
     ensures { result ≡ no_number field.now }
 {
-    is_bad(text::parse(field))
-}
-
-// The value of what was read: 0 where it is no number.
-pub fn value_of(number: Number) -> u64
-    ensures { result ≡ value_of number }
-{
-    match number {
-        Number::Value(v) => v,
-        Number::Bad => 0,
-    }
-}
-
-// Is what was read no number?
-pub fn is_bad(number: Number) -> bool
-    ensures { result ≡ is_bad number }
-{
-    match number {
-        Number::Value(_) => false,
-        Number::Bad => true,
-    }
+    text::parse(field).is_none()
 }
 
 // The place behind the field at a place.

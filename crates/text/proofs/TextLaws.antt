@@ -1,15 +1,16 @@
 -- Laws of `specs/Text.antt`, for any mark. No contract cites this file. Assumes nothing.
-use mathlib.Core.Path.{◌≡◌, refl, sym, ap, ap₂, ◌∙◌}
-use mathlib.Core.Bool.{Bool, true, false, true≢false, cond, ◌&&◌}
+use mathlib.Core.Path.{◌≡◌, refl, ap, ◌∙◌}
+use mathlib.Core.Bool.{Bool, true, false, not, cond}
 use mathlib.Core.List.{List, [], ◌∷◌}
 use Prim.Native.Nat.{ℕ, suc, ◌+◌, ◌-◌, ◌<◌, ◌≤◌}
-use native.Mathlib.Numerals.{add-one}
 use native.Mathlib.Omega.{arith}
-use borrow.Author.Tests.{eqb-true, eq-eqb, ne_eqb}
-use lib.Dec.{eqb}
-use lib.ListN.{length, get_or, take, drop, length-drop, drop_of_length-le}
-use lib.Seq.{drop-cons, drop-drop}
-use Rattle.text.specs.Text.{up_to, in_front, parts, same}
+use borrow.Author.Tests.{ltb-false}
+use lib.Dec.{eqb, ltb}
+use lib.ListN.{length, take, drop, length-drop, drop_of_length-le}
+use lib.Seq.{drop-drop, take_all}
+use Rattle.std.specs.Prelude.{Some, None, unwrap_or}
+use Rattle.std.specs.List.{position_or_len, position, slice_split, onto_first}
+use Rattle.text.specs.Text.{up_to, in_front, parts}
 
 -- The part at the text's start
 
@@ -68,18 +69,19 @@ module _ (mark : ℕ) where
       go true h f = absurd (omega arith)
       go false h f = ap (in_front c) (f (omega arith))
 
+-- the parts, as the library's `split` states them
+pub parts-split : (mark : ℕ) (s : List ℕ) → slice_split (λ c. eqb c mark) s ≡ parts mark s
+unfolding in_front parts
+parts-split mark [] = refl
+parts-split mark (c ∷ s) = rw (parts-split mark s) (ap (cond (eqb c mark) ([] ∷ parts mark s)) (front (parts mark s)))
+  where
+    front : (ps : List (List ℕ)) → onto_first c ps ≡ in_front c ps
+    front [] = refl
+    front (p ∷ ps) = refl
+
 -- The part at a place of the text, as a loop over the text finds its end
 
 module _ (mark : ℕ) (text : List ℕ) (i : ℕ) where
-  pub up_to-here : i < length text → get_or text i 0 ≡ mark → i + length (up_to mark (drop i text)) ≡ i
-  unfolding up_to
-  up_to-here l e = rw (drop-cons text i 0 l, eq-eqb _ _ e) (omega arith)
-
-  pub up_to-next : i < length text → (get_or text i 0 ≡ mark → ⊥)
-      → i + length (up_to mark (drop i text)) ≡ (i + 1) + length (up_to mark (drop (i + 1) text))
-  unfolding up_to
-  up_to-next l n = rw (drop-cons text i 0 l, ne_eqb _ _ n, add-one) (omega arith)
-
   -- past the text's end the part is empty
   pub up_to-past : length text ≤ i → up_to mark (drop i text) ≡ []
   unfolding up_to
@@ -111,37 +113,25 @@ module _ (mark : ℕ) (text : List ℕ) (i e : ℕ) (is : e ≡ i + length (up_t
   pub parts_last : length text ≤ e → parts mark (drop i text) ≡ drop i text ∷ []
   parts_last h = parts_all mark (drop i text) (omega (arith, length-drop i text))
 
--- The same bytes
+-- The rest of a text, as a lent part of it
+pub rest-is : (text : List ℕ) (from : ℕ) → take (length text - from) (drop from text) ≡ drop from text
+rest-is text from = take_all (length text - from) (drop from text) (omega (arith, length-drop from text))
 
-same-eq : (a b : List ℕ) → same a b ≡ true → a ≡ b
-unfolding same
-same-eq [] [] e = refl
-same-eq [] (d ∷ b) e = absurd (true≢false (sym e))
-same-eq (c ∷ a) [] e = absurd (true≢false (sym e))
-same-eq (c ∷ a) (d ∷ b) e = go (eqb c d) refl e (same-eq a b)
+-- where the first mark stands, or the length
+up_to-prefix : (mark : ℕ) (s : List ℕ) → position_or_len (λ c. eqb c mark) s ≡ length (up_to mark s)
+unfolding up_to
+up_to-prefix mark [] = refl
+up_to-prefix mark (c ∷ s) = go (eqb c mark) (up_to-prefix mark s)
   where
-    go : (t : Bool) → eqb c d ≡ t → (t && same a b) ≡ true → (same a b ≡ true → a ≡ b) → ◌≡◌ {A = List ℕ} (c ∷ a) (d ∷ b)
-    go true q e f = ap₂ (λ (x : ℕ) (l : List ℕ). x ∷ l) (eqb-true c d q) (f e)
-    go false q e f = absurd (true≢false (sym e))
+    go : (b : Bool) → position_or_len (λ c. eqb c mark) s ≡ length (up_to mark s)
+        → cond (not b) (1 + position_or_len (λ c. eqb c mark) s) 0 ≡ length (cond b [] (c ∷ up_to mark s))
+    go true e = refl
+    go false e = omega (arith, e)
 
-pub same_length : (a b : List ℕ) → (length a ≡ length b → ⊥) → same a b ≡ false
-same_length a b n = go (same a b) refl
+pub up_to-position : (mark : ℕ) (s : List ℕ) → unwrap_or (position (λ c. eqb c mark) s) (length s) ≡ length (up_to mark s)
+up_to-position mark s = go (ltb (position_or_len (λ c. eqb c mark) s) (length s)) refl
   where
-    go : (t : Bool) → same a b ≡ t → t ≡ false
-    go true e = absurd (n (ap length (same-eq a b e)))
-    go false e = refl
-
--- as a loop over both finds it
-module _ (a b : List ℕ) (i : ℕ) where
-  pub same_next : i < length a → i < length b → get_or a i 0 ≡ get_or b i 0
-      → same (drop i a) (drop i b) ≡ same (drop (i + 1) a) (drop (i + 1) b)
-  unfolding same
-  same_next l m e = rw (drop-cons a i 0 l, drop-cons b i 0 m, eq-eqb _ _ e, add-one)
-
-  pub same-differ : i < length a → i < length b → (get_or a i 0 ≡ get_or b i 0 → ⊥) → same (drop i a) (drop i b) ≡ false
-  unfolding same
-  same-differ l m n = rw (drop-cons a i 0 l, drop-cons b i 0 m, ne_eqb _ _ n)
-
-  pub same_end : length a ≤ i → length b ≤ i → same (drop i a) (drop i b) ≡ true
-  unfolding same
-  same_end l m = rw (drop_of_length-le a l, drop_of_length-le b m)
+    go : (b : Bool) → ltb (position_or_len (λ c. eqb c mark) s) (length s) ≡ b
+        → unwrap_or (cond b (Some (position_or_len (λ c. eqb c mark) s)) None) (length s) ≡ length (up_to mark s)
+    go true t = up_to-prefix mark s
+    go false t = omega (arith, ltb-false _ _ t, up_to-prefix mark s, up_to-le mark s)

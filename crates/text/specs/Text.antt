@@ -1,6 +1,7 @@
 -- Text cut at a mark: lines end with byte 10, fields are parted by byte 9 (the scope, "Plans and
 -- images"). Assumes nothing.
-use Rattle.std.specs.Prelude.{Bool, true, false, cond, ◌&&◌, List, [], ◌∷◌, ℕ, eqb}
+use Rattle.std.specs.Prelude.{Bool, cond, List, [], ◌∷◌, ℕ, eqb}
+use Rattle.std.specs.Str.{bytes_eq}
 use Rattle.ascii.specs.Ascii.{tab, line_end}
 
 -- the bytes before the first mark, or all of them
@@ -28,8 +29,5 @@ abbrev pub fields_of : List ℕ → List (List ℕ)
 fields_of line = parts tab line
 
 -- the same bytes
-unfoldable pub same : List ℕ → List ℕ → Bool
-same [] [] = true
-same [] (d ∷ ds) = false
-same (c ∷ cs) [] = false
-same (c ∷ cs) (d ∷ ds) = eqb c d && same cs ds
+abbrev pub same : List ℕ → List ℕ → Bool
+same = bytes_eq

@@ -10,7 +10,6 @@ use lib.ListN.{get_or}
 use Rattle.lists.specs.Search.{first}
 use Rattle.lists.proofs.SearchLaws.{any_below}
 use Rattle.lists.proofs.TestLaws.{or-eq-false}
-use Rattle.text.specs.Text.{same}
 use Rattle.names.specs.Names.{names, name_count}
 use Rattle.line.specs.Line.{name_number}
 use Rattle.theorems.specs.Names.{NamesNumbered, SettingsNamed, DrawingsNamed, OfNames}
@@ -30,7 +29,7 @@ misread : ℕ → Bool
 misread i = not (eqb (name_number (get_or names i [])) i)
 
 all_read : any_below name_count misread ≡ false
-unfolding first same misread
+unfolding first misread
 all_read = refl
 
 pub names-numbered : NamesNumbered
@@ -38,7 +37,7 @@ unfolding misread
 names-numbered i h = eqb-true (name_number (get_or names i [])) i (not-false _ (none_below name_count misread all_read i h))
 
 pub settings-named : SettingsNamed
-unfolding first same
+unfolding first
 settings-named =
     record {
       saddr = λ f. refl;

@@ -126,7 +126,7 @@ module _ (words draw axes : ℕ) (t : List ℕ) (point : ℕ) (line : List ℕ) 
   could-of : no_point words draw axes t point ≡ false
       → ended line ≡ line_with (changed_in line) words draw (axes_in axes t) point → could_be words draw axes t point line ≡ true
   unfolding could_be
-  could-of e s = rw (e, s) (same_self _)
+  could-of e s = rw (e, s) (same_self (line_with (changed_in line) words draw (axes_in axes t) point))
 
   of-could : could_be words draw axes t point line ≡ true
       → (point < points_in axes t) × (ended line ≡ line_with (changed_in line) words draw (axes_in axes t) point)

@@ -20,12 +20,10 @@ use Rattle.theorems.proofs.WritingLaws.{number_of-decimal}
 -- The same bytes
 
 pub same_self : (a : List ℕ) → same a a ≡ true
-unfolding same
 same_self [] = refl
 same_self (c ∷ a) = rw (eq-eqb c c refl) (same_self a)
 
 pub same-is : (a b : List ℕ) → same a b ≡ true → a ≡ b
-unfolding same
 same-is [] [] e = refl
 same-is [] (d ∷ b) e = absurd (true≢false (sym e))
 same-is (c ∷ a) [] e = absurd (true≢false (sym e))

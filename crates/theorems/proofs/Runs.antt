@@ -16,7 +16,8 @@ use Rattle.arrays.specs.Array.{drawing_for}
 use Rattle.array_refusal.specs.Refusal.{refusal}
 use Rattle.array_refusal.proofs.RefusalLaws.{refusal-number}
 use Rattle.plot.specs.Drawing.{pixels}
-use Rattle.text.specs.Number.{number_of, value_of}
+use Rattle.std.specs.Prelude.{Option, unwrap_or}
+use Rattle.text.specs.Number.{number_of}
 use Rattle.text.proofs.NumberLaws.{number_of-inj}
 use Rattle.points.specs.Axes.{count}
 use Rattle.points.specs.Points.{experiment}
@@ -126,7 +127,7 @@ pub numbers-read-back : NumbersReadBack
 numbers-read-back = number_of-decimal
 
 pub one-writing : OneWriting
-one-writing m n hm hn e = ap value_of (sym (number_of-decimal m hm) ∙ ap number_of e ∙ number_of-decimal n hn)
+one-writing m n hm hn e = ap (λ (o : Option ℕ). unwrap_or o 0) (sym (number_of-decimal m hm) ∙ ap number_of e ∙ number_of-decimal n hn)
 
 pub one_field : OneField
 one_field = number_of-inj

@@ -10,7 +10,7 @@ use borrow.Author.Tests.{ltb-true, ltb-false, lt-ltb, le-leb, ne_eqb}
 use lib.Dec.{ltb}
 use Rattle.text.specs.Number.{is_digit, are_digits, digits_of, number_of}
 use Rattle.text.specs.Number.{digits_value as value_from}
-use Rattle.text.specs.declared.Number.TheVariants.{Value}
+use Rattle.std.specs.Prelude.{Some}
 use Rattle.listing.specs.Listing.{digits, decimal}
 use Rattle.listing.proofs.ListingLaws.{digits-small, digits-large}
 
@@ -77,20 +77,20 @@ written (suc k) n h =
 
 -- and so it is read
 
-digits_of-written : (n : ℕ) (cs : List ℕ) → n < 2 ^ 64 → Written n cs → digits_of 0 cs ≡ Value n
+digits_of-written : (n : ℕ) (cs : List ℕ) → n < 2 ^ 64 → Written n cs → digits_of 0 cs ≡ Some n
 digits_of-written n cs h w = rw (w.all, w.value, lt-ltb n (2 ^ 64) h)
 
-number_of-written : (n : ℕ) (cs : List ℕ) → n < 2 ^ 64 → 0 < n → Written n cs → number_of cs ≡ Value n
+number_of-written : (n : ℕ) (cs : List ℕ) → n < 2 ^ 64 → 0 < n → Written n cs → number_of cs ≡ Some n
 unfolding number_of
 number_of-written n [] h p w = absurd (w.leads p)
 number_of-written n (c ∷ []) h p w = digits_of-written n (c ∷ []) h w
 number_of-written n (c ∷ d ∷ cs) h p w = rw (ne_eqb c 48 (w.leads p)) (digits_of-written n (c ∷ d ∷ cs) h w)
 
-number_of-one : (n : ℕ) → n < 10 → number_of ((48 + n) ∷ []) ≡ Value n
+number_of-one : (n : ℕ) → n < 10 → number_of ((48 + n) ∷ []) ≡ Some n
 unfolding number_of
 number_of-one n h = digits_of-written n ((48 + n) ∷ []) (omega arith) (written_one n h)
 
-pub number_of-decimal : (n : ℕ) → n < 2 ^ 64 → number_of (decimal n) ≡ Value n
+pub number_of-decimal : (n : ℕ) → n < 2 ^ 64 → number_of (decimal n) ≡ Some n
 number_of-decimal n h =
     by_size n (λ l. rw (digits-small 19 n l) (number_of-one n l))
     (λ l. number_of-written n (decimal n) h (omega arith) (written 19 n (omega arith)))

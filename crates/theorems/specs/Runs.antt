@@ -1,13 +1,12 @@
 -- Runs of plans: the points of a listing, its parts, its numbers, and the answers of a run. The
 -- proofs are in proofs/Runs.antt. Assumes nothing.
-use Rattle.std.specs.Prelude.{◌≡◌, true, false, cond, List, [], ◌++◌, ◌⊎◌, ℕ, ◌+◌, ◌-◌, ◌^◌, ◌≤◌, ◌<◌, min, eqb}
+use Rattle.std.specs.Prelude.{◌≡◌, true, false, cond, List, [], ◌++◌, ◌⊎◌, ℕ, ◌+◌, ◌-◌, ◌^◌, ◌≤◌, ◌<◌, min, eqb, Some}
 use Rattle.memory.specs.Bits.{no_memory}
 use Rattle.settings.specs.Settings.{settings_of}
 use Rattle.plot.specs.Drawing.{pixels}
 use Rattle.operation.specs.Operation.{operation_of}
 use Rattle.arrays.specs.Array.{drawing_for}
 use Rattle.text.specs.Number.{number_of}
-use Rattle.text.specs.declared.Number.TheVariants.{Value}
 use Rattle.points.specs.Axes.{Axis, count}
 use Rattle.points.specs.Points.{experiment}
 use Rattle.points.specs.Table.{axes_in, points_in}
@@ -61,13 +60,13 @@ PartsAreOne =
 -- Each number of 64 bits has one writing: what a listing writes, a plan's reader reads back; two
 -- numbers are not written as one, and two fields are not read as one number.
 abbrev pub NumbersReadBack : Type 0
-NumbersReadBack = (n : ℕ) → n < 2 ^ 64 → number_of (decimal n) ≡ Value n
+NumbersReadBack = (n : ℕ) → n < 2 ^ 64 → number_of (decimal n) ≡ Some n
 
 abbrev pub OneWriting : Type 0
 OneWriting = (m n : ℕ) → m < 2 ^ 64 → n < 2 ^ 64 → decimal m ≡ decimal n → m ≡ n
 
 abbrev pub OneField : Type 0
-OneField = (a b : List ℕ) (v : ℕ) → number_of a ≡ Value v → number_of b ≡ Value v → a ≡ b
+OneField = (a b : List ℕ) (v : ℕ) → number_of a ≡ Some v → number_of b ≡ Some v → a ≡ b
 
 -- No plan has more than 64^8 points, so that their numbers fit into 64 bits.
 abbrev pub CountFits : Type 0

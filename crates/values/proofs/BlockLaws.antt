@@ -3,57 +3,43 @@ use mathlib.Core.Path.{◌≡◌, refl, sym, ap, ◌∙◌}
 use mathlib.Core.Bool.{Bool, true, false, true≢false, ◌&&◌, ◌||◌, or_assoc, or_comm, or-false, and-eq-true_iff}
 use mathlib.Core.List.{List, [], ◌∷◌, ◌++◌, append_assoc, append-nil, map}
 use Prim.Native.Nat.{ℕ, zero, suc, ◌+◌, ◌-◌, ◌<◌, ◌≤◌}
-use native.Mathlib.Numerals.{add-one}
 use native.Mathlib.Omega.{arith}
 use borrow.Author.Tests.{ltb-true, ltb-false, leb-true, leb-false}
 use lib.Dec.{eqb, ltb, leb}
-use lib.ListN.{length, get_or, set, take, drop, replicate, length-drop, length-append, length-map, length-replicate, take-append-drop}
+use lib.ListN.{length, set, take, drop, replicate, length-append, length-map, length-replicate, take-append-drop}
 use lib.ListN.{drop_of_length-le}
-use lib.Seq.{drop-cons, set_at, length-take-le, take_all, take_at, drop_at}
+use lib.Seq.{set_at, length-take-le, take_all, take_at, drop_at}
+use Rattle.std.specs.List.{fold}
 use Rattle.lists.specs.Search.{any, any_pair}
 use Rattle.lists.proofs.TestLaws.{or_swap, eqb_comm}
 use Rattle.lists.proofs.SearchLaws.{any_snoc, any_append, any_pair-append}
 use Rattle.text.specs.Text.{up_to}
-use Rattle.text.specs.Number.{number_of, value_of, is_bad}
-use Rattle.text.specs.declared.Number.{Number}
+use Rattle.text.specs.Number.{number_of}
+use Rattle.std.specs.Prelude.{Option, is_none, unwrap_or}
 use Rattle.values.specs.declared.Block.{Block}
-use Rattle.values.specs.declared.FieldTest.TheVariants.{Above}
 use Rattle.tabs.specs.Fields.{fields_from, field_value, no_number}
-use Rattle.values.specs.Tests.{passes}
+use Rattle.values.specs.Tests.{is_above}
 use Rattle.text.proofs.TextLaws.{up_to-le, part-take}
 use Rattle.values.specs.Block.{values_from, widths, block_size, block_of, BlockAt}
 use Rattle.tabs.proofs.FieldsLaws.{fields_from-cons, fields_from-past}
 use Rattle.values.proofs.TestsLaws.{any-map, any-above}
 
--- A search among numbers held, from an index on
+-- A search among numbers held, each of which is tested
+pub any-folded : (p : ℕ → Bool) (found : Bool) (l : List ℕ) → fold (λ f x. f || p x) found l ≡ (found || any p l)
+unfolding any
+any-folded p found [] = sym (or-false found)
+any-folded p found (x ∷ l) = any-folded p (found || p x) l ∙ or_assoc found (p x) (any p l)
 
-module _ (l : List ℕ) (i : ℕ) where
-  pub any_held : (p : ℕ → Bool) (found : Bool) → i < length l
-      → (found || any p (drop i l)) ≡ (found || p (get_or l i 0) || any p (drop (i + 1) l))
-  unfolding any
-  any_held p found h = rw (drop-cons l i 0 h, add-one) (sym (or_assoc found _ _))
+-- A number that stands twice: the first one, or one behind it
 
-  pub any-held-end : (p : ℕ → Bool) (found : Bool) → length l ≤ i → (found || any p (drop i l)) ≡ found
-  unfolding any
-  any-held-end p found h = rw (drop_of_length-le l h) (or-false found)
+pub any_pair-first : (l later : List ℕ) (v : ℕ) → l ≡ v ∷ later → any_pair eqb l ≡ (any (eqb v) later || any_pair eqb later)
+unfolding any_pair
+any_pair-first l later v e = rw e
 
-  -- the numbers behind one, as the part of a list that is lent
-  any_pair-held : i < length l
-      → any_pair eqb (drop i l) ≡ (any (eqb (get_or l i 0)) (take (length l - (i + 1)) (drop (i + 1) l)) || any_pair eqb (drop (i + 1) l))
-  unfolding any_pair
-  any_pair-held h = rw (take_all (length l - (i + 1)) (drop (i + 1) l) (omega (arith, length-drop (i + 1) l)), drop-cons l i 0 h, add-one)
-
-  pub any_pair-here : i < length l → any (eqb (get_or l i 0)) (take (length l - (i + 1)) (drop (i + 1) l)) ≡ true
-      → any_pair eqb (drop i l) ≡ true
-  any_pair-here h t = any_pair-held h ∙ rw t
-
-  pub any_pair-next : i < length l → any (eqb (get_or l i 0)) (take (length l - (i + 1)) (drop (i + 1) l)) ≡ false
-      → any_pair eqb (drop i l) ≡ any_pair eqb (drop (i + 1) l)
-  any_pair-next h t = any_pair-held h ∙ rw t
-
-  pub any_pair-end : length l ≤ i → any_pair eqb (drop i l) ≡ false
-  unfolding any_pair
-  any_pair-end h = rw (drop_of_length-le l h)
+pub any_pair-none : (l : List ℕ) → length l ≡ 0 → any_pair eqb l ≡ false
+unfolding any_pair
+any_pair-none [] e = refl
+any_pair-none (x ∷ l) e = absurd (omega arith)
 
 -- What is known of a block: the values held are the first ones, those left start behind it, and what its fields tell is told
 
@@ -63,7 +49,7 @@ pub record Held (line : List ℕ) (from most : ℕ) (b : Block) : Type 0 where
   pub left : values_from line b.behind ≡ drop block_size (values_from line from)
   pub onwards : from ≤ length line → from < b.behind
   pub told : any no_number (fields_from line from) ≡ (b.bad || any no_number (fields_from line b.behind))
-  pub over : any (passes (Above most)) (fields_from line from) ≡ (b.above || any (passes (Above most)) (fields_from line b.behind))
+  pub over : any (is_above most) (fields_from line from) ≡ (b.above || any (is_above most) (fields_from line b.behind))
 
 -- fields that are read one after another
 
@@ -95,7 +81,7 @@ pub record Filled (line : List ℕ) (from most : ℕ) (values : List ℕ) (count
   pub split : fields_from line from ≡ read ++ fields_from line p
   pub place : p ≡ from + widths read
   pub told : bad ≡ any no_number read
-  pub over : above ≡ any (passes (Above most)) read
+  pub over : above ≡ any (is_above most) read
 
 pub nothing-filled : (line : List ℕ) (from most : ℕ) → Filled line from most (replicate block_size 0) 0 from false false
 unfolding any
@@ -118,14 +104,14 @@ module _ {line : List ℕ} {from most : ℕ} {values : List ℕ} {count p : ℕ}
       (length-map f.read field_value ∙ sym f.number))
 
   -- with e the end of the field at the place, and n what is read there
-  pub filled_next : (e v : ℕ) (n : Number) (t : Bool) → e ≡ p + length (up_to 9 (drop p line)) → p ≤ length line
+  pub filled_next : (e v : ℕ) (n : Option ℕ) (t : Bool) → e ≡ p + length (up_to 9 (drop p line)) → p ≤ length line
       → n ≡ number_of (take (e - p) (drop p line))
-      → v ≡ value_of n → t ≡ is_bad n → count < block_size
+      → v ≡ unwrap_or n 0 → t ≡ is_none n → count < block_size
       → Filled line from most (set values count v) (count + 1) (e + 1) (bad || t) (above || ltb most v)
   filled_next e v n t is l read at none h =
       let g : List ℕ = take (e - p) (drop p line) in
       let here : fields_from line p ≡ g ∷ fields_from line (e + 1) = fields_from-cons line p e is l in
-      let value : v ≡ field_value g = at ∙ ap value_of read in
+      let value : v ≡ field_value g = at ∙ ap (λ (o : Option ℕ). unwrap_or o 0) read in
       let wide : length g ≡ e - p = length-take-le (e - p) (drop p line) (omega (arith, is, up_to-le 9 (drop p line))) in
       record {
         read = f.read ++ (g ∷ []);
@@ -136,8 +122,8 @@ module _ {line : List ℕ} {from most : ℕ} {values : List ℕ} {count p : ℕ}
         place = omega (arith, f.place, widths-snoc f.read g, wide, is);
         told = rw (any_snoc no_number g f.read, f.told, none, read) (or_comm (any no_number f.read) (no_number g));
         over =
-            rw (any_snoc (passes (Above most)) g f.read, f.over, value)
-            (or_comm (any (passes (Above most)) f.read) (ltb most (field_value g)));
+            rw (any_snoc (is_above most) g f.read, f.over, value)
+            (or_comm (any (is_above most) f.read) (ltb most (field_value g)));
       }
 
   read-full : count ≡ block_size → (f.read ≡ block_of line from) × (fields_from line p ≡ drop block_size (fields_from line from))
@@ -165,7 +151,7 @@ module _ {line : List ℕ} {from most : ℕ} {values : List ℕ} {count p : ℕ}
         count-is = f.number ∙ ap length h;
         behind-is = f.place ∙ ap (λ (r : List (List ℕ)). from + widths r) h;
         bad-is = f.told ∙ ap (any no_number) h;
-        above-is = f.over ∙ ap (any (passes (Above most))) h;
+        above-is = f.over ∙ ap (any (is_above most)) h;
       }
 
 -- A block's fields end where the next ones start
@@ -220,8 +206,8 @@ held_of {line} {from} {most} {b} at =
       onwards = λ l. omega (arith, at.behind-is, widths-pos line from l);
       told = ap (any no_number) (sym both) ∙ any_append no_number (block_of line from) (drop block_size fields) ∙ rw (at.bad-is, rest);
       over =
-          ap (any (passes (Above most))) (sym both)
-          ∙ any_append (passes (Above most)) (block_of line from) (drop block_size fields) ∙ rw (at.above-is, rest);
+          ap (any (is_above most)) (sym both)
+          ∙ any_append (is_above most) (block_of line from) (drop block_size fields) ∙ rw (at.above-is, rest);
     }
 
 -- Values that stand twice: in a block, in it and behind it, or behind it
@@ -268,14 +254,14 @@ abbrev pub bad_in : Block → Bool
 bad_in b = b.above || any_pair eqb (held_in b)
 
 abbrev pub bad_behind : List ℕ → ℕ → Block → Bool
-bad_behind line most b = any (passes (Above most)) (fields_from line b.behind) || same_behind line b
+bad_behind line most b = any (is_above most) (fields_from line b.behind) || same_behind line b
 
 module _ {line : List ℕ} {from most : ℕ} {b : Block} (at : Held line from most b) where
   bad_from-block : bad_from line from most ≡ (bad_in b || (bad_behind line most b || any_pair eqb (values_from line b.behind)))
   bad_from-block =
       let rest = fields_from line b.behind in
       rw (any-above most (most + 1) (fields_from line from) refl, at.over, any_pair-block at)
-      (or-arrange b.above (any (passes (Above most)) rest) (any_pair eqb (held_in b)) (same_behind line b)
+      (or-arrange b.above (any (is_above most) rest) (any_pair eqb (held_in b)) (same_behind line b)
       (any_pair eqb (map field_value rest)))
 
   pub bad_from-in : bad_in b ≡ true → bad_from line from most ≡ true

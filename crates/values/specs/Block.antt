@@ -2,9 +2,8 @@
 use Rattle.std.specs.Prelude.{◌≡◌, List, [], ◌∷◌, ◌++◌, map, ℕ, ◌+◌, ◌-◌, length, take, replicate}
 use Rattle.lists.specs.Search.{any}
 use Rattle.values.specs.declared.Block.{Block}
-use Rattle.values.specs.declared.FieldTest.TheVariants.{Above}
 use Rattle.tabs.specs.Fields.{fields_from, field_value, no_number}
-use Rattle.values.specs.Tests.{passes}
+use Rattle.values.specs.Tests.{is_above}
 
 -- the values from a place on
 abbrev pub values_from : List ℕ → ℕ → List ℕ
@@ -31,4 +30,4 @@ pub record BlockAt (line : List ℕ) (from most : ℕ) (b : Block) : Type 0 wher
   pub count-is : b.count ≡ length (block_of line from)
   pub behind-is : b.behind ≡ from + widths (block_of line from)
   pub bad-is : b.bad ≡ any no_number (block_of line from)
-  pub above-is : b.above ≡ any (passes (Above most)) (block_of line from)
+  pub above-is : b.above ≡ any (is_above most) (block_of line from)

@@ -1,36 +1,28 @@
 // The values of a line from a place on: blocks of them, and searches among them.
 #![tactic(auto)]
 
-ghost use Rattle.std.specs.Prelude.{◌≡◌, map, eqb};
+ghost use Rattle.std.specs.Prelude.{◌≡◌, Bool, List, ℕ, map, eqb};
 ghost use Rattle.lists.specs.Search.{any, any_pair};
-ghost use Rattle.tabs.specs.Fields.{fields_from, field_value};
-ghost use Rattle.values.specs.Tests.{passes};
+ghost use Rattle.tabs.specs.Fields.{fields_from, field_value, no_number};
+ghost use Rattle.values.specs.Tests.{is_above, ComputesTest};
 ghost use Rattle.values.specs.Block.{BlockAt};
 
-// A test of a field.
-#[derive(Clone, Copy)]
-pub enum FieldTest {
-    NoNumber,
-    Above(u64),
+// Is some field from a place on no number?
+pub fn any_no_number(line: &[u8], from: usize) -> bool
+    ensures { result ≡ any no_number (fields_from line.now from) }
+{
+    any_field(line, from, |f| tabs::no_number(f))
 }
 
-// Does some field from a place on pass a test?
-pub fn any_field(line: &[u8], from: usize, test: FieldTest) -> bool
-    ensures { result ≡ any (passes test) (fields_from line.now from) }
+// Is some value from a place on above this one?
+pub fn any_above(line: &[u8], from: usize, most: u64) -> bool
+    ensures { result ≡ any (is_above most) (fields_from line.now from) }
 {
-    let mut p = from;
-    while p <= line.len() {
-        let end = text::part_end(line, p, ascii::TAB);
-        if passes(&line[p..end], test) {
-            return true;
-        }
-        p = end + 1;
-    }
-    false
+    any_field(line, from, |f| most < tabs::field_value(f))
 }
 
 // Does some value stand twice among those from a place on? Block by block: in the block, or in it
-// and behind it.
+// and behind it. The next block starts where the last one ends: no iterator hands that place on.
 pub fn any_twice(line: &[u8], from: usize) -> bool
     ensures { result ≡ any_pair eqb (map field_value (fields_from line.now from)) }
 {
@@ -64,7 +56,8 @@ pub struct Block {
     pub above: bool,
 }
 
-// The values from a place on, at most a block of them, against the greatest that is good.
+// The values from a place on, at most a block of them, against the greatest that is good. A loop by
+// places of the line, since the place behind the block is handed back.
 pub fn block_at(line: &[u8], from: usize, most: u64) -> Block
     ensures { BlockAt line.now from most result }
 {
@@ -76,9 +69,9 @@ pub fn block_at(line: &[u8], from: usize, most: u64) -> Block
     while (count < BLOCK) & (p <= line.len()) {
         let end = text::part_end(line, p, ascii::TAB);
         let number = text::parse(&line[p..end]);
-        let v = tabs::value_of(number);
-        bad = bad | tabs::is_bad(number);
-        above = above | (most < v);
+        let v = number.unwrap_or(0);
+        bad |= number.is_none();
+        above |= most < v;
         values[count] = v;
         count += 1;
         p = end + 1;
@@ -96,13 +89,12 @@ pub fn block_at(line: &[u8], from: usize, most: u64) -> Block
 pub fn any_same(held: &[u64]) -> bool
     ensures { result ≡ any_pair eqb held.now }
 {
-    let mut k = 0;
-    while k < held.len() {
-        let v = held[k];
-        k += 1;
-        if is_among(&held[k..], v) {
+    let mut rest = held;
+    while let Some((v, later)) = rest.split_first() {
+        if is_among(later, *v) {
             return true;
         }
+        rest = later;
     }
     false
 }
@@ -112,37 +104,25 @@ pub fn any_among(line: &[u8], from: usize, held: &[u64]) -> bool
     ensures { let fields = fields_from line.now from in
         result ≡ any (λ f. any (eqb (field_value f)) held.now) fields }
 {
-    let mut p = from;
-    while p <= line.len() {
-        let end = text::part_end(line, p, ascii::TAB);
-        let v = tabs::field_value(&line[p..end]);
-        if is_among(held, v) {
-            return true;
-        }
-        p = end + 1;
-    }
-    false
+    any_field(line, from, |f| is_among(held, tabs::field_value(f)))
 }
 
-// Does a field pass a test?
-fn passes(field: &[u8], test: FieldTest) -> bool
-    ensures { result ≡ passes test field.now }
+// Does some field from a place on pass a test?
+fn any_field<F: Fn(&[u8]) -> bool>(line: &[u8], from: usize, test: F) -> bool
+    requires { (x : _) → F.pre test x }
+    ensures { (p : List ℕ → Bool) → ComputesTest F.Fn test p
+        → result ≡ any p (fields_from line.now from) }
 {
-    match test {
-        FieldTest::NoNumber => tabs::no_number(field),
-        FieldTest::Above(v) => v < tabs::field_value(field),
-    }
+    let Some(rest) = line.get(from..) else {
+        return false;
+    };
+    rest.split(|c| *c == ascii::TAB).any(|f| test(f))
 }
 
-// Is a number among those held? Every one is tested, so that the loop has no other exit.
+// Is a number among those held? Every one is tested, so that the loop has no other exit (it becomes
+// vectors, as `contains` does not).
 fn is_among(held: &[u64], v: u64) -> bool
     ensures { result ≡ any (eqb v) held.now }
 {
-    let mut found = false;
-    let mut k = 0;
-    while k < held.len() {
-        found = found | (v == held[k]);
-        k += 1;
-    }
-    found
+    held.iter().fold(false, |found, x| found | (v == *x))
 }

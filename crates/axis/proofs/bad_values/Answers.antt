@@ -7,13 +7,13 @@ pub returns-then-b-any_same : goal.returns-then-b-any_same
 returns-then-b-any_same c =
     sym (bad_from-in (held_of c.requires) (rw c.any_same.ensures at c.if-b-any_same.true))
 
-pub returns-then-any_field-any_among : goal.returns-then-any_field-any_among
-returns-then-any_field-any_among c =
+pub returns-then-above-any_among : goal.returns-then-above-any_among
+returns-then-above-any_among c =
     sym (bad_from-behind (held_of c.requires) (rw c.any_same.ensures at c.if-b-any_same.false)
-    (rw (c.any_field.ensures, c.any_among.ensures) at c.if-any_field-any_among.true))
+    (rw (c.any_above-above.ensures, c.any_among.ensures) at c.if-above-any_among.true))
 
 pub returns : goal.returns
 returns c =
     c.any_twice.ensures
     ∙ sym (bad_from-next (held_of c.requires) (rw c.any_same.ensures at c.if-b-any_same.false)
-    (rw (c.any_field.ensures, c.any_among.ensures) at c.if-any_field-any_among.false))
+    (rw (c.any_above-above.ensures, c.any_among.ensures) at c.if-above-any_among.false))

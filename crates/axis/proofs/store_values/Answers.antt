@@ -55,4 +55,4 @@ loop-i-preserved c =
 pub returns-clause-entered : goal.returns-clause-entered
 returns-clause-entered c =
     let l = c.loop-i in
-    sym (l.invariant.1 ∙ stored_at-past _ _ _ c.loop-i-test.false)
+    sym (l.invariant.1 ∙ stored_at-past l.i _ l.table (omega (arith, l.invariant.0, c.loop-i-test.false)))

@@ -16,7 +16,3 @@ invariant-loop-i l =
     × (l.at ≤ l.i)
     × (length (take (length l.initial.table - l.at) (values_of (fields_of l.line)))
     ≡ l.i - l.at + length (take (length l.initial.table - l.i) (map field_value (fields_from l.line l.p))))
-
-abbrev pub decreases-loop-i : goal.decreases-loop-i
-decreases-loop-i l =
-    length l.initial.table - l.i

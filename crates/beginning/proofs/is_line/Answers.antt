@@ -31,7 +31,7 @@ text-3 c =
     let x = c.args in
     made x.point x.ran c.requires c.bit-v.ensures (c.numbers-end.ensures.value, c.numbers-end.ensures.out_after)
 
-text : (c : goal.After-same) → let x = c.args in
+text : (c : goal.After-eq) → let x = c.args in
     (1 ≤ c.numbers-end.result)
     × ((c.numbers-end.result - 1 ≤ length c.numbers-end.new.out)
     × (take (c.numbers-end.result - 1) c.numbers-end.new.out ≡ unended (numbers_of x.point x.ran)))
@@ -47,5 +47,5 @@ pub returns : goal.returns
 returns c =
     let x = c.args in
     let l = x.line.now in
-    c.same.ensures ∙ ap (same l) (text c).1.1 ∙ same_ended l (unended (numbers_of x.point x.ran))
+    c.eq.ensures ∙ ap (same l) (text c).1.1 ∙ same_ended l (unended (numbers_of x.point x.ran))
     ∙ ap (same (ended l)) (sym (numbers_line-ended (numbers_of x.point x.ran)))

@@ -5,4 +5,4 @@ use Rattle.line.proofs.is_pair.Goals as goal
 pub returns : goal.returns
 returns c =
     let line = c.args.line.now in
-    rw (c.same.ensures, c.part.ensures.bytes, c.count.ensures, fields_from-zero line, first_field line)
+    rw (c.eq.ensures, c.part.ensures.bytes, c.count.ensures, fields_from-zero line, first_field line)

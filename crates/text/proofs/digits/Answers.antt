@@ -1,22 +1,23 @@
--- `text::digits` meets its contract. The invariant: the digits left follow the value so far.
+-- `text::digits` meets its contract: no digit that is refused, one more digit, and the last one.
 use mathlib.Core.Path.{sym, ◌∙◌}
-use native.Mathlib.Omega.{arith}
-use lib.ListN.{get_or}
+use Rattle.std.proofs.Common.{arith, get_or}
 use Rattle.text.proofs.DigitLaws.{pushed-lt, digits_of-next, digits_of-stop, digits_of-end}
 use Rattle.text.proofs.digits.Goals as goal
 
-pub returns-in_default : goal.returns-in_default
-returns-in_default c =
-    let l = c.loop-i in
-    let bad = sym c.push.ensures ∙ c.in_default.is in
-    sym (l.invariant.1 ∙ digits_of-stop _ l.i l.v (omega arith) bad)
+pub returns-in_err-v : goal.returns-in_err-v
+returns-in_err-v c =
+    let l = c.loop-c in
+    let bad = sym c.push.ensures ∙ c.in_err-v.was in
+    rw c.from_residual.ensures (sym (l.invariant.1 ∙ digits_of-stop c.args.field.now l.c-index l.v (omega arith) bad))
 
-pub loop-i-preserved : goal.loop-i-preserved
-loop-i-preserved c =
+pub loop-c-preserved : goal.loop-c-preserved
+loop-c-preserved c =
+    let l = c.loop-c in
     let s = c.args.field.now in
-    let e = sym c.push.ensures ∙ c.in-Value.is in
-    (pushed-lt c.loop-i.v (get_or s c.loop-i.i 0) _ e, c.loop-i.invariant.1 ∙ digits_of-next s c.loop-i.i c.loop-i.v _ (omega arith) e)
+    let e = sym c.push.ensures ∙ c.in_ok-v.was in
+    (pushed-lt l.v (get_or s l.c-index 0) _ e, l.invariant.1 ∙ digits_of-next s l.c-index l.v _ (omega arith) e)
 
 pub returns : goal.returns
 returns c =
-    sym (c.loop-i.invariant.1 ∙ digits_of-end _ _ _ c.loop-i-test.false c.loop-i.invariant.0)
+    let l = c.loop-c in
+    sym (l.invariant.1 ∙ digits_of-end c.args.field.now l.c-index l.v (omega arith) l.invariant.0)

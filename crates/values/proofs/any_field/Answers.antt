@@ -1,28 +1,22 @@
--- `values::any_field` meets its contract. The invariant: the search among all the fields comes out as that among the fields left.
-use mathlib.Core.Path.{sym, ◌∙◌}
+-- `values::any_field` meets its contract: none past the line's end, and else the pieces of the rest of the line.
+use mathlib.Core.Path.{sym, ap, ◌∙◌}
+use Rattle.std.proofs.Common.{rules, tests}
+use Rattle.std.proofs.lemmas.Iterator.Search.{any_from_yields_List}
+use Rattle.std.proofs.lemmas.Iterator.Splits.{YieldsList-from_slice_split}
 use Rattle.lists.specs.Search.{any}
-use Rattle.text.proofs.TextLaws.{part-end-le}
-use Rattle.tabs.proofs.FieldsLaws.{any_here, any_next, fields_from-past}
+use Rattle.tabs.proofs.FieldsLaws.{any-listed, fields_from-past, fields_from-split}
 use Rattle.values.proofs.any_field.Goals as goal
 
-pub slice_bounds-passes-end : goal.slice_bounds-passes-end
-slice_bounds-passes-end c =
-    part-end-le 9 _ _ _ c.part_end-end.ensures c.loop-p-test.true
-
-pub returns-then-passes : goal.returns-then-passes
-returns-then-passes c =
-    let found = sym c.passes.ensures ∙ c.if-passes.true in
-    sym
-    (c.loop-p.invariant
-    ∙ any_here _ _ _ c.part_end-end.ensures c.loop-p-test.true _ found)
-
-pub loop-p-preserved : goal.loop-p-preserved
-loop-p-preserved c =
-    let other = sym c.passes.ensures ∙ c.if-passes.false in
-    c.loop-p.invariant
-    ∙ any_next _ _ _ c.part_end-end.ensures c.loop-p-test.true _ other
+pub returns-in_default : goal.returns-in_default
+unfolding any
+returns-in_default g c p h =
+    sym (ap (any p) (fields_from-past _ _ (search rules)))
 
 pub returns : goal.returns
-unfolding any
-returns c =
-    sym (c.loop-p.invariant ∙ rw (fields_from-past _ _ c.loop-p-test.false))
+returns g c p h =
+    let k = c.split.ensures in
+    let i = c.in-Some.ensures.lookup.0 in
+    any_from_yields_List p _ _ _ c.any.ensures.ran
+    (YieldsList-from_slice_split _ _ c.in-Some.rest.now k.rest k.done k.closure (λ x b q t. search (rules, tests)))
+    (λ x b q t. search (rules, tests, h))
+    ∙ sym (any-listed p _) ∙ ap (any p) (fields_from-split c.args.line.now c.in-Some.rest.now c.args.from i.0 i.2)

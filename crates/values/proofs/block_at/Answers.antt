@@ -1,4 +1,5 @@
 -- `values::block_at` meets its contract. The invariant: the values read and those left are all the values.
+use Rattle.std.proofs.Common.{rules}
 use Prim.Native.Nat.{◌<◌, ◌≤◌}
 use native.Mathlib.Omega.{arith}
 use lib.ListN.{length}
@@ -14,7 +15,7 @@ tested-2 c =
     (omega (arith, t.0), t.1)
 
 -- there is room, and the place is one of the line
-tested : (c : goal.After-is_bad-bad) → (c.loop-count.count < block_size) × (c.loop-count.p ≤ length c.args.line.now)
+tested : (c : goal.After-is_none-bad) → (c.loop-count.count < block_size) × (c.loop-count.p ≤ length c.args.line.now)
 tested c =
     let t = fill-test c.loop-count.count _ c.loop-count.p (length c.args.line.now) c.loop-count-test.true in
     (omega (arith, t.0), t.1)
@@ -31,7 +32,7 @@ pub loop-count-preserved : goal.loop-count-preserved
 loop-count-preserved c =
     let t = tested c in
     filled_next c.loop-count.invariant _ _ c.parse-number.result _ c.part_end-end.ensures t.1 c.parse-number.ensures
-    c.value_of-v.ensures c.is_bad-bad.ensures t.0
+    c.unwrap_or-v.ensures (search rules) t.0
 
 pub returns : goal.returns
 returns c =
