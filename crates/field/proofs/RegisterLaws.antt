@@ -42,25 +42,27 @@ module _ (m : List ℕ) (a n : ℕ) (p : 0 < n) (h : n ≤ 32) where
   register-sign : bit_at m (a + n - 1) ≡ 1 → register m a n true ≡ bits_number (bit_at m) a n + (2 ^ 32 - 2 ^ n)
   register-sign e = omega (arith, filled true 1 e, pow_mono h)
 
-  -- by the code's test, on the top bit as it finds it
-  module _ (t : ℕ) (top : t ≡ bit_at m (a + n - 1)) where
-    pub register-taken : (signed : Bool) → (signed && eqb t 1) ≡ true
-        → register m a n signed ≡ bits_number (bit_at m) a n + (2 ^ 32 - 2 ^ n)
-    register-taken true e = register-sign (sym top ∙ eqb-true t 1 e)
-    register-taken false e = cc
-
-    pub register-left : (signed : Bool) → (signed && eqb t 1) ≡ false → register m a n signed ≡ bits_number (bit_at m) a n
-    register-left true e =
-        let z : t ≡ 1 → ⊥ = eqb-false t 1 e in
-        register-zero true (omega (arith, bit_at_lt m (a + n - 1)))
-    register-left false e = register-zero false refl
-
   -- the top bit of the field's number
-  pub top_bit : bits_number (bit_at m) a n / 2 ^ (n - 1) % 2 ≡ bit_at m (a + n - 1)
+  top_bit : bits_number (bit_at m) a n / 2 ^ (n - 1) % 2 ≡ bit_at m (a + n - 1)
   unfolding bit_of
   top_bit =
       let o : a + (n - 1) ≡ a + n - 1 = omega arith in
       bit-number (bit_at m) (bit_at_lt m) a n (n - 1) (omega arith) ∙ ap (bit_at m) o
 
-  pub field_lt : bits_number (bit_at m) a n < 2 ^ n
-  field_lt = number_lt (bit_at m) (bit_at_lt m) a n
+  -- by the code's test, on the field's number and its top bit as it finds them
+  module _ (x t : ℕ) (is : x ≡ bits_number (bit_at m) a n) (top : t ≡ x / 2 ^ (n - 1) % 2) where
+    is_top : t ≡ bit_at m (a + n - 1)
+    is_top = top ∙ ap (λ (v : ℕ). v / 2 ^ (n - 1) % 2) is ∙ top_bit
+
+    pub number-lt : x < 2 ^ n
+    number-lt = rw is (number_lt (bit_at m) (bit_at_lt m) a n)
+
+    pub register-taken : (signed : Bool) → (signed && eqb t 1) ≡ true → x + (2 ^ 32 - 2 ^ n) ≡ register m a n signed
+    register-taken true e = rw is (sym (register-sign (sym is_top ∙ eqb-true t 1 e)))
+    register-taken false e = cc
+
+    pub register-left : (signed : Bool) → (signed && eqb t 1) ≡ false → x ≡ register m a n signed
+    register-left true e =
+        let z : t ≡ 1 → ⊥ = eqb-false t 1 e in
+        is ∙ sym (register-zero true (omega (arith, is_top, bit_at_lt m (a + n - 1))))
+    register-left false e = is ∙ sym (register-zero false refl)

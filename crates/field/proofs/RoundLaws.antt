@@ -6,9 +6,12 @@ use mathlib.Core.Logic.{◌⊎◌, ⊎_elim}
 use Prim.Native.Nat.{ℕ, ◌+◌, ◌-◌, ◌*◌, ◌%◌, ◌^◌, ◌<◌, ◌≤◌}
 use native.Mathlib.Nat.{zero-add}
 use native.Mathlib.Omega.{arith}
-use borrow.Author.Tests.{eq-eqb, ne_eqb, eqb-true, lt-ltb, le-leb, le-ltb}
-use lib.Dec.{eqb, ltb}
+use borrow.Author.Tests.{ne_eqb, lt-ltb, le-leb, le-ltb}
+use lib.Dec.{ltb}
 use lib.ListN.{length}
+use Rattle.std.specs.Prelude.{Result, Ok, Err, is_ok, IsOkAnd}
+use Rattle.answers.specs.declared.Refused.{Refused}
+use Rattle.answers.specs.declared.Refused.TheVariants.{End}
 use Rattle.memory.specs.Bits.{Memory, bit_of, bit_at, with_field}
 use Rattle.memory.proofs.NumberLaws.{bit-number}
 use Rattle.memory.proofs.MemoryLaws.{bit_at_lt}
@@ -19,37 +22,43 @@ use Rattle.field_refusal.proofs.RefusalLaws.{accepted}
 use Rattle.field.proofs.RegisterLaws.{register-zero}
 
 -- a call that is refused changes nothing, and one that is not writes the field
-pub written-refused : (m : List ℕ) (a n x : ℕ) → (field_refusal (length m) a n ≡ 0 → ⊥) → field_written m a n x ≡ m
+pub written-refused : (m : List ℕ) (a n x : ℕ) → (field_refusal (length m) a n ≡ Ok tt → ⊥) → field_written m a n x ≡ m
 unfolding field_written
-written-refused m a n x h = rw (ne_eqb _ _ h)
+written-refused m a n x h = go (field_refusal (length m) a n) refl
+  where
+    go : (r : Result Unit Refused) → field_refusal (length m) a n ≡ r → cond (is_ok r) (with_field m a (meant n) x) m ≡ m
+    go (Ok t) e = absurd (h e)
+    go (Err r) e = refl
 
-field_read-accepted : (m : List ℕ) (a n : ℕ) → field_refusal (length m) a n ≡ 0 → (signed : Bool)
-    → field_read m a n signed ≡ record { answer = 0; value = register m a (meant n) signed }
+field_read-accepted : (m : List ℕ) (a n : ℕ) → field_refusal (length m) a n ≡ Ok tt → (signed : Bool)
+    → field_read m a n signed ≡ Ok (register m a (meant n) signed)
 unfolding field_read
-field_read-accepted m a n e signed = rw (eq-eqb _ _ e)
+field_read-accepted m a n e signed = rw e
 
-module _ (m : List ℕ) (a n x : ℕ) (e : field_refusal (length m) a n ≡ 0) where
+module _ (m : List ℕ) (a n x : ℕ) (e : field_refusal (length m) a n ≡ Ok tt) where
   written-field : field_written m a n x ≡ with_field m a (meant n) x
   unfolding field_written
-  written-field = rw (eq-eqb _ _ e)
+  written-field = rw e
 
-  pub read_back : let back = field_read (field_written m a n x) a n false in (back.answer ≡ 0) × (back.value ≡ x % 2 ^ meant n)
+  pub read_back : field_read (field_written m a n x) a n false ≡ Ok (x % 2 ^ meant n)
   read_back =
       let w : List ℕ = with_field m a (meant n) x in
       let h = accepted (length m) a n e in
-      let e' : field_refusal (length w) a n ≡ 0 = ap (λ (k : ℕ). field_refusal k a n) (length-with_field m a (meant n) x) ∙ e in
+      let e' : field_refusal (length w) a n ≡ Ok tt =
+      ap (λ (k : ℕ). field_refusal k a n) (length-with_field m a (meant n) x) ∙ e in
       rw (written-field, field_read-accepted w a n e' false)
-      (refl, register-zero w a (meant n) h.bits.some h.bits.most false refl ∙ read-with_field m a (meant n) x h.inside)
+      (ap Ok (register-zero w a (meant n) h.bits.some h.bits.most false refl ∙ read-with_field m a (meant n) x h.inside))
 
 pub write-frame : (m : List ℕ) (a n x b : ℕ) → (b < a) ⊎ (a + meant n ≤ b) → bit_at (field_written m a n x) b ≡ bit_at m b
 unfolding field_written
-write-frame m a n x b h = go (eqb (field_refusal (length m) a n) 0) refl
+write-frame m a n x b h = go (field_refusal (length m) a n) refl
   where
-    go : (t : Bool) → eqb (field_refusal (length m) a n) 0 ≡ t → bit_at (cond t (with_field m a (meant n) x) m) b ≡ bit_at m b
-    go true e =
-        bit_at-with_field m a (meant n) x (accepted (length m) a n (eqb-true _ _ e)).inside b
+    go : (r : Result Unit Refused) → field_refusal (length m) a n ≡ r
+        → bit_at (cond (is_ok r) (with_field m a (meant n) x) m) b ≡ bit_at m b
+    go (Ok t) e =
+        bit_at-with_field m a (meant n) x (accepted (length m) a n e).inside b
         ∙ ⊎_elim (λ l. written_bit-below m a (meant n) x b l) (λ l. written_bit-above m a (meant n) x b l) h
-    go false e = refl
+    go (Err r) e = refl
 
 -- the register's low n bits are the field's
 register-bit : (m : List ℕ) (a n : ℕ) (signed : Bool) → n ≤ 32 → (j : ℕ) → j < n → bit_of (register m a n signed) j ≡ bit_at m (a + j)
@@ -64,15 +73,16 @@ register-bit m a n signed h j hj = bit-number (register_bit m a n signed) bits 0
     bits : (k : ℕ) → register_bit m a n signed k < 2
     bits k = pick (ltb k n) signed k
 
-pub write-back : (m : List ℕ) (a n : ℕ) (signed : Bool) → Memory (length m) m → field_refusal (length m) a n ≡ 0
-    → field_written m a n (field_read m a n signed).value ≡ m
+pub write-back : (m : List ℕ) (a n : ℕ) (signed : Bool) → Memory (length m) m → field_refusal (length m) a n ≡ Ok tt
+    → IsOkAnd (field_read m a n signed) (λ v. field_written m a n v ≡ m)
 write-back m a n signed g e =
     let h = accepted (length m) a n e in
     let r = register m a (meant n) signed in
     rw (field_read-accepted m a n e signed)
     (written-field m a n r e ∙ with_field-same a (meant n) r g (register-bit m a (meant n) signed h.bits.most) h.inside)
 
-pub past_end : (words a n : ℕ) → 0 < words → words ≤ 1048576 → bad_size n ≡ false → 16 * words < a + meant n → field_refusal words a n ≡ 17
+pub past_end : (words a n : ℕ) → 0 < words → words ≤ 1048576 → bad_size n ≡ false → 16 * words < a + meant n
+    → field_refusal words a n ≡ Err End
 unfolding field_refusal
 past_end words a n p q e h =
     rw (ne_eqb words 0 (omega arith), le-ltb 1048576 words q, e, le-leb (16 * words) (a + meant n - 1) (omega arith))

@@ -3,7 +3,7 @@
 use mathlib.Core.Path.{◌≡◌, ap, ap₂, ◌∙◌}
 use mathlib.Core.List.{List}
 use Prim.Native.Nat.{ℕ, ◌+◌, ◌*◌, ◌/◌, ◌%◌, ◌^◌, ◌≤◌, ◌<◌}
-use native.Mathlib.Nat.{add_assoc, lt_of_lt_of_le, mod-lt}
+use native.Mathlib.Nat.{add_assoc, one-mul, lt_of_lt_of_le, mod-lt}
 use native.Mathlib.Omega.{arith}
 use lib.ListN.{get_or, set}
 use lib.Pow.{pow_pos, pow_mono, shl_exact}
@@ -71,10 +71,10 @@ pub window-lt : (m : List ℕ) (i k : ℕ) → k ≤ 3 → window_of m i k < 2 ^
 window-lt m i k h =
     lt_of_lt_of_le (number_lt (bit_at m) (bit_at_lt m) (16 * i) (16 * k)) (pow_mono {i = 16 * k} {j = 48} (omega arith))
 
--- the bit in which a field starts
-pub place : (a : ℕ) → 16 * (a / 16) + a % 16 ≡ a
-place a = omega arith
-
 -- a shift to the left of n bits by s, in 64 bits
 pub shifted : (s n x : ℕ) → s < 16 → n ≤ 32 → x % 2 ^ n * 2 ^ s % 2 ^ 64 ≡ x % 2 ^ n * 2 ^ s
 shifted s n x hs hn = shl_exact n s 64 (mod-lt x (pow_pos n)) (omega arith)
+
+-- and of 1, which gives a power of two
+pub one-shifted : (n : ℕ) → n < 64 → 1 * 2 ^ n % 2 ^ 64 ≡ 2 ^ n
+one-shifted n h = shl_exact 1 n 64 (omega arith) (omega arith) ∙ one-mul (2 ^ n)

@@ -1,10 +1,11 @@
 -- Fields (the scope, "Fields"; 003 section 4.1): reading and writing n bits at bit address a.
 -- Assumes nothing.
-use Rattle.std.specs.Prelude.{Bool, cond, List, ℕ, ◌+◌, ◌-◌, eqb, ltb, length}
+use Rattle.std.specs.Prelude.{Bool, cond, Result, Ok, is_ok, List, ℕ, ◌+◌, ◌-◌, ltb, length}
+use Rattle.std.specs.Result.{result_and}
+use Rattle.answers.specs.declared.Refused.{Refused}
 use Rattle.memory.specs.Bits.{bit_at, bits_number, with_field}
 use Rattle.field_refusal.specs.Size.{meant}
 unfoldable pub use Rattle.field_refusal.specs.Refusal.{field_refusal}
-use Rattle.field.specs.declared.FieldRead.{FieldRead}
 
 -- bit j of the register after a read: the field holds bits a to a+n-1, lowest first, and the upper
 -- bits are filled with 0 or with the field's top bit, as asked
@@ -19,13 +20,11 @@ register m a n signed = bits_number (register_bit m a n signed) 0 32
 -- Of a size that is given, and so of the bits that it means
 
 -- what a read hands back; the memory stays
-unfoldable pub field_read : List ℕ → ℕ → ℕ → Bool → FieldRead
+unfoldable pub field_read : List ℕ → ℕ → ℕ → Bool → Result ℕ Refused
 field_read m a size signed =
-    cond (eqb (field_refusal (length m) a size) 0)
-    (record { answer = 0; value = register m a (meant size) signed })
-    (record { answer = field_refusal (length m) a size; value = 0 })
+    result_and (field_refusal (length m) a size) (Ok (register m a (meant size) signed))
 
 -- the memory after a write: those bits only are changed
 unfoldable pub field_written : List ℕ → ℕ → ℕ → ℕ → List ℕ
 field_written m a size x =
-    cond (eqb (field_refusal (length m) a size) 0) (with_field m a (meant size) x) m
+    cond (is_ok (field_refusal (length m) a size)) (with_field m a (meant size) x) m

@@ -2,9 +2,11 @@
 // all below it takes the bits that the size means.
 #![tactic(auto)]
 
-ghost use Rattle.std.specs.Prelude.{◌≡◌, ℕ, ◌+◌, ◌*◌, ◌/◌, ◌%◌, ◌^◌, ◌<◌, ◌≤◌, length};
+ghost use Rattle.std.specs.Prelude.{◌≡◌, ◌+◌, ◌*◌, ◌/◌, ◌%◌, ◌^◌, ◌<◌, ◌≤◌, length};
 ghost use Rattle.memory.specs.Bits.{Memory, bit_at, bits_number, with_bits, with_field};
 ghost use Rattle.field.specs.Field.{field_refusal, register, field_read, field_written};
+
+use answers::Refused;
 
 // 2^16: words are less.
 const WORDS: u64 = 65536;
@@ -12,142 +14,143 @@ const WORDS: u64 = 65536;
 // 2^32: registers are less.
 const REGISTERS: u64 = 4294967296;
 
-// The answer, 0 or the refusal's number, and the register of 32 bits.
-#[derive(Clone, Copy)]
-pub struct FieldRead {
-    pub answer: u32,
-    pub value: u32,
-}
-
 // Reads a field into a register, zero or sign extended. The memory stays as lent.
-pub fn read(memory: &mut [u16], address: u32, size: u32, signed: bool) -> FieldRead
+#[tactic(auto, unfolding(crate::specs::Field::field_read))]
+pub fn read(memory: &mut [u16], address: u32, size: u32, signed: bool) -> Result<u32, Refused>
     ensures { let m = memory.old in
         (result ≡ field_read m address size signed) × (memory.new ≡ m) }
 {
-    let answer = field_refusal::refusal_of(memory.len(), address, size);
-    if answer != 0 {
-        return FieldRead { answer, value: 0 };
-    }
+    field_refusal::refusal_of(memory.len(), address, size)?;
     let bits = field_refusal::meant(size);
-    let value = read_register(memory, address as u64, bits as u64, signed);
-    FieldRead { answer, value }
+    let field = Field::of(memory.len(), u64::from(address), u64::from(bits));
+    Ok(field.register(memory, signed))
 }
 
-// Writes the low bits of a register to a field, and answers 0 or the refusal's number.
-pub fn write(memory: &mut [u16], address: u32, size: u32, value: u32) -> u32
+// Writes the low bits of a register to a field.
+#[tactic(auto, unfolding(crate::specs::Field::field_written))]
+pub fn write(memory: &mut [u16], address: u32, size: u32, value: u32) -> Result<(), Refused>
     ensures { let m = memory.old in
         (result ≡ field_refusal (length m) address size)
         × (memory.new ≡ field_written m address size value) }
 {
-    let answer = field_refusal::refusal_of(memory.len(), address, size);
-    if answer != 0 {
-        return answer;
-    }
+    field_refusal::refusal_of(memory.len(), address, size)?;
     let bits = field_refusal::meant(size);
-    write_bits(memory, address as u64, bits as u64, value as u64);
-    answer
+    let field = Field::of(memory.len(), u64::from(address), u64::from(bits));
+    field.write(memory, u64::from(value));
+    Ok(())
 }
 
-// The register after a read.
-fn read_register(memory: &[u16], address: u64, size: u64, signed: bool) -> u32
-    requires { (0 < size) × (size ≤ 32) × (address + size ≤ 16 * length memory.now) }
-    ensures { result ≡ register memory.now address size signed }
-{
-    let bits = read_bits(memory, address, size);
-    let top = taken(bits, size - 1, 1);
-    if signed & (top == 1) {
-        return (bits + (REGISTERS - power(size))) as u32;
-    }
-    bits as u32
+// A field in the one to three words that hold it: `size` bits, from bit `s` on of the `count` words
+// from word `at` on.
+#[derive(Clone, Copy)]
+struct Field {
+    at: usize,
+    count: u64,
+    s: u64,
+    size: u64,
+    ghost some_words: { (0 < count) × (count ≤ 3) },
+    ghost within: { (s < 16) × (0 < size) × (size ≤ 32) × (s + size ≤ 16 * count) },
 }
 
-// The field's bits as a number. The words taken are three where two are not enough, and else two if
-// there are two: whether one would be enough is not asked, as that test is often guessed wrong.
-fn read_bits(memory: &[u16], address: u64, size: u64) -> u64
-    requires { (0 < size) × (size ≤ 32) × (address + size ≤ 16 * length memory.now) }
-    ensures { result ≡ bits_number (bit_at memory.now) address size }
-{
-    let s = address % 16;
-    let at = (address / 16) as usize;
-    if 32 < s + size {
-        return read_words(memory, at, 3, s, size);
+impl Field {
+    // The field of a memory of so many words. Three words hold it where two are not enough, and
+    // else two if there are two: whether one would be enough is not asked, as that test is often
+    // guessed wrong.
+    fn of(words: usize, address: u64, size: u64) -> Field
+        requires { (0 < size) × (size ≤ 32) × (address + size ≤ 16 * words) }
+        ensures held { result.at + result.count ≤ words }
+        ensures same { (16 * result.at + result.s ≡ address) × (result.size ≡ size) }
+    {
+        let s = address % 16;
+        let at = (address / 16) as usize;
+        if 32 < s + size {
+            return Field {
+                at,
+                count: 3,
+                s,
+                size,
+            };
+        }
+        if words - at < 2 {
+            return Field {
+                at,
+                count: 1,
+                s,
+                size,
+            };
+        }
+        Field {
+            at,
+            count: 2,
+            s,
+            size,
+        }
     }
-    if memory.len() - at < 2 {
-        return read_words(memory, at, 1, s, size);
-    }
-    read_words(memory, at, 2, s, size)
-}
 
-// The bits from bit s on of so many words.
-fn read_words(memory: &[u16], at: usize, count: u64, s: u64, size: u64) -> u64
-    requires count_nonzero { (0 < count) × (count ≤ 3) × (at + count ≤ length memory.now) }
-    requires s_bound { (s < 16) × (size ≤ 32) × (s + size ≤ 16 * count) }
-    ensures { result ≡ bits_number (bit_at memory.now) (16 * at + s) size }
-{
-    taken(window(memory, at, count), s, size)
-}
+    // The register after a read.
+    fn register(self, memory: &[u16], signed: bool) -> u32
+        requires { self.at + self.count ≤ length memory.now }
+        ensures { result ≡ register memory.now (16 * self.at + self.s) self.size signed }
+    {
+        let bits = self.read(memory);
+        let top = taken(bits, self.size - 1, 1);
+        if signed & (top == 1) {
+            return (bits + (REGISTERS - (1 << self.size))) as u32;
+        }
+        bits as u32
+    }
 
-// Writes the low bits of a number to the field, and no other bit. The words are those that a read
-// takes.
-fn write_bits(memory: &mut [u16], address: u64, size: u64, x: u64)
-    requires { (0 < size) × (size ≤ 32) × (address + size ≤ 16 * length memory.old) }
-    ensures { memory.new ≡ with_field memory.old address size x }
-{
-    let s = address % 16;
-    let at = (address / 16) as usize;
-    if 32 < s + size {
-        return write_words(memory, at, 3, s, size, x);
+    // The field's bits as a number.
+    fn read(self, memory: &[u16]) -> u64
+        requires { self.at + self.count ≤ length memory.now }
+        ensures { result ≡ bits_number (bit_at memory.now) (16 * self.at + self.s) self.size }
+    {
+        taken(self.window(memory), self.s, self.size)
     }
-    if memory.len() - at < 2 {
-        return write_words(memory, at, 1, s, size, x);
-    }
-    write_words(memory, at, 2, s, size, x)
-}
 
-// Writes the low bits of a number from bit s on of so many words.
-fn write_words(memory: &mut [u16], at: usize, count: u64, s: u64, size: u64, x: u64)
-    requires count_nonzero { (0 < count) × (count ≤ 3) × (at + count ≤ length memory.old) }
-    requires s_bound { (s < 16) × (size ≤ 32) × (s + size ≤ 16 * count) }
-    ensures { memory.new ≡ with_field memory.old (16 * at + s) size x }
-{
-    let v = window(memory, at, count);
-    let w = put(v, s, size, x);
-    store(memory, at, count, w);
-}
+    // Writes the low bits of a number to the field, and no other bit.
+    fn write(self, memory: &mut [u16], x: u64)
+        requires { self.at + self.count ≤ length memory.old }
+        ensures { memory.new ≡ with_field memory.old (16 * self.at + self.s) self.size x }
+    {
+        let v = self.window(memory);
+        let w = put(v, self.s, self.size, x);
+        self.store(memory, w);
+    }
 
-// One to three words as one number, the first lowest.
-fn window(memory: &[u16], at: usize, count: u64) -> u64
-    requires { (0 < count) × (count ≤ 3) × (at + count ≤ length memory.now) }
-    ensures { result ≡ bits_number (bit_at memory.now) (16 * at) (16 * count) }
-{
-    let a = wide(memory[at]);
-    if count == 1 {
-        return a;
+    // The words as one number, the first lowest.
+    fn window(self, memory: &[u16]) -> u64
+        requires { self.at + self.count ≤ length memory.now }
+        ensures { result ≡ bits_number (bit_at memory.now) (16 * self.at) (16 * self.count) }
+    {
+        let a = u64::from(memory[self.at]);
+        if self.count == 1 {
+            return a;
+        }
+        let b = u64::from(memory[self.at + 1]);
+        if self.count == 2 {
+            return a + WORDS * b;
+        }
+        let c = u64::from(memory[self.at + 2]);
+        a + WORDS * (b + WORDS * c)
     }
-    let b = wide(memory[at + 1]);
-    if count == 2 {
-        return a + WORDS * b;
-    }
-    let c = wide(memory[at + 2]);
-    a + WORDS * (b + WORDS * c)
-}
 
-// Stores the lowest one to three words of a number, the lowest first.
-fn store(memory: &mut [u16], at: usize, count: u64, v: u64)
-    requires { (0 < count) × (count ≤ 3) × (at + count ≤ length memory.old)
-        × Memory (length memory.old) memory.old }
-    ensures { memory.new
-        ≡ with_field memory.old (16 * at) (16 * count) v }
-{
-    memory[at] = (v % WORDS) as u16;
-    if count == 1 {
-        return;
+    // Stores the lowest words of a number in them, the lowest first.
+    fn store(self, memory: &mut [u16], v: u64)
+        requires inside { self.at + self.count ≤ length memory.old }
+        requires words { Memory (length memory.old) memory.old }
+        ensures { memory.new ≡ with_field memory.old (16 * self.at) (16 * self.count) v }
+    {
+        memory[self.at] = (v % WORDS) as u16;
+        if self.count == 1 {
+            return;
+        }
+        memory[self.at + 1] = (v / WORDS % WORDS) as u16;
+        if self.count == 2 {
+            return;
+        }
+        memory[self.at + 2] = (v / WORDS / WORDS % WORDS) as u16;
     }
-    memory[at + 1] = (v / WORDS % WORDS) as u16;
-    if count == 2 {
-        return;
-    }
-    memory[at + 2] = (v / WORDS / WORDS % WORDS) as u16;
 }
 
 // A number with the n low bits of x in the place of its bits s to s + n - 1.
@@ -171,20 +174,5 @@ fn low(x: u64, n: u64) -> u64
     requires { n < 64 }
     ensures { result ≡ x % 2 ^ n }
 {
-    x & (power(n) - 1)
-}
-
-// A power of two.
-fn power(n: u64) -> u64
-    requires { n < 64 }
-    ensures { result ≡ 2 ^ n }
-{
-    1 << n
-}
-
-// A word as a number of 64 bits.
-fn wide(w: u16) -> u64
-    ensures { (result ≡ w) × (result < 2 ^ 16) }
-{
-    w as u64
+    x & ((1 << n) - 1)
 }

@@ -1,5 +1,7 @@
 -- The refusals of a field call (the scope, "Refusal numbers"). Assumes nothing.
-use Rattle.std.specs.Prelude.{Bool, cond, ℕ, ◌+◌, ◌-◌, ◌*◌, leb}
+use Rattle.std.specs.Prelude.{Bool, cond, Result, Ok, Err, ℕ, ◌+◌, ◌-◌, ◌*◌, leb}
+use Rattle.answers.specs.declared.Refused.{Refused}
+use Rattle.answers.specs.declared.Refused.TheVariants.{Memory, FieldSize, End}
 use Rattle.memory.specs.Bits.{no_memory}
 use Rattle.field_refusal.specs.Size.{bad_size, meant}
 
@@ -7,8 +9,9 @@ use Rattle.field_refusal.specs.Size.{bad_size, meant}
 abbrev pub ends_outside : ℕ → ℕ → ℕ → Bool
 ends_outside words a n = leb (16 * words) (a + n - 1)
 
--- a field call checks 10, 18, 17 in that order; 0 where none applies
-unfoldable pub field_refusal : ℕ → ℕ → ℕ → ℕ
+-- a field call checks 10, 18, 17 in that order
+unfoldable pub field_refusal : ℕ → ℕ → ℕ → Result Unit Refused
 field_refusal words a size =
-    cond (no_memory words) 10
-    (cond (bad_size size) 18 (cond (ends_outside words a (meant size)) 17 0))
+    cond (no_memory words) (Err Memory)
+    (cond (bad_size size) (Err FieldSize)
+    (cond (ends_outside words a (meant size)) (Err End) (Ok tt)))

@@ -5,20 +5,23 @@ ghost use Rattle.std.specs.Prelude.{◌≡◌};
 ghost use Rattle.field_refusal.specs.Size.{bad_size, meant};
 ghost use Rattle.field_refusal.specs.Refusal.{field_refusal};
 
-// The refusal's number of a field call, or 0.
-pub fn refusal_of(words: usize, address: u32, size: u32) -> u32
+use answers::Refused;
+
+// The refusal of a field call, if there is one.
+#[tactic(auto, unfolding(crate::specs::Refusal::field_refusal))]
+pub fn refusal_of(words: usize, address: u32, size: u32) -> Result<(), Refused>
     ensures { result ≡ field_refusal words address size }
 {
     if memory::no_memory(words) {
-        return 10;
+        return Err(Refused::Memory);
     }
     if bad_size(size) {
-        return 18;
+        return Err(Refused::FieldSize);
     }
-    if 16 * (words as u64) < address as u64 + meant(size) as u64 {
-        return 17;
+    if 16 * (words as u64) < u64::from(address) + u64::from(meant(size)) {
+        return Err(Refused::End);
     }
-    0
+    Ok(())
 }
 
 // Refusal 18: is this no field size?
@@ -29,6 +32,7 @@ pub fn bad_size(size: u32) -> bool
 }
 
 // How many bits a size means.
+#[tactic(auto, unfolding(crate::specs::Size::meant))]
 pub fn meant(size: u32) -> u32
     ensures { result ≡ meant size }
 {

@@ -1,6 +1,6 @@
 -- The scope's "Figures at the edge" that are marked P: one table, with one proof. The definitions
 -- are those that contracts cite. Assumes nothing.
-use Rattle.std.specs.Prelude.{◌≡◌, Bool, true, false, List, [], ◌∷◌, ℕ, ◌%◌}
+use Rattle.std.specs.Prelude.{◌≡◌, Bool, true, false, Ok, List, [], ◌∷◌, ℕ, ◌%◌}
 use Rattle.field.specs.Field.{field_read}
 use Rattle.timing.specs.Cycles.{case_of}
 use Rattle.timing.specs.declared.Case.TheVariants.{F}
@@ -95,9 +95,8 @@ filling = filling_with 0xC0 0
 
 pub record Figures : Type 0 where
   -- size 8 at address 12 over words F000h, 000Ah reads AFh, signed FFFFFFAFh; case F
-  pub field : field_read (0xF000 ∷ 0x000A ∷ []) 12 8 false ≡ record { answer = 0; value = 0xAF }
-  pub field-signed : field_read (0xF000 ∷ 0x000A ∷ []) 12 8 true
-      ≡ record { answer = 0; value = 0xFFFFFFAF }
+  pub field : field_read (0xF000 ∷ 0x000A ∷ []) 12 8 false ≡ Ok 0xAF
+  pub field-signed : field_read (0xF000 ∷ 0x000A ∷ []) 12 8 true ≡ Ok 0xFFFFFFAF
   pub field-case : case_of (12 % 16) 8 ≡ F
   -- PSIZE 4, S=9, D=12: PP 16 gives 5, 17 gives 15, 18 gives 3. S=12, D=9: 18 gives 13, 19 gives 0
   pub add : processed 16 (top_of 4) 9 12 ≡ 5

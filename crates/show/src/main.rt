@@ -2,8 +2,10 @@
 // fetches of the instruction cache.
 #![tactic(auto)]
 
+use answers::answer;
 use cache::{Cache, Kind};
 use states::Mode;
+use timing::Cycles;
 
 fn main(rt: HostRuntime) {
     show_field(&rt);
@@ -30,26 +32,27 @@ fn show_field(rt: &impl Print) {
     let mut space = [61440u16, 10u16];
     let memory: &mut [u16] = &mut space;
     text(rt, "field of 8 bits at address 12 over f000 000a\n");
-    let plain = field::read(memory, 12, 8, false);
+    let plain = field::read(memory, 12, 8, false).unwrap_or(0);
     text(rt, "  read\t");
-    hex(rt, plain.value as u64, 8);
-    let signed = field::read(memory, 12, 8, true);
+    hex(rt, u64::from(plain), 8);
+    let signed = field::read(memory, 12, 8, true).unwrap_or(0);
     text(rt, "\n  signed\t");
-    hex(rt, signed.value as u64, 8);
-    let cycles = timing::field_cycles(12, 8);
+    hex(rt, u64::from(signed), 8);
+    let none = Cycles { read: 0, write: 0 };
+    let cycles = timing::field_cycles(12, 8).unwrap_or(none);
     text(rt, "\n  memory cycles of a read, of a write\t");
-    number(rt, cycles.read as u64);
+    number(rt, u64::from(cycles.read));
     text(rt, "\t");
-    number(rt, cycles.write as u64);
-    let states = states::move_states(12, 8, Mode::Indirect, false, true);
+    number(rt, u64::from(cycles.write));
+    let states = states::move_states(12, 8, Mode::Indirect, false, true).unwrap_or(0);
     text(rt, "\n  states of MOVE in cache\t");
-    number(rt, states.states as u64);
-    let answer = field::write(memory, 12, 8, 51);
+    number(rt, u64::from(states));
+    let written = field::write(memory, 12, 8, 51);
     text(rt, "\n  write 33\tanswer ");
-    number(rt, answer as u64);
+    number(rt, u64::from(answer(&written)));
     let past = field::write(memory, 4294967295, 8, 51);
     text(rt, "\n  write at ffffffff\tanswer ");
-    number(rt, past as u64);
+    number(rt, u64::from(answer(&past)));
     text(rt, "\n");
 }
 
@@ -59,13 +62,13 @@ fn show_image(rt: &impl Print) {
     let mut space = [0u16; 4];
     let memory: &mut [u16] = &mut space;
     image::fill_image(memory, 1);
-    let low = field::read(memory, 0, 32, false);
-    let high = field::read(memory, 32, 32, false);
+    let low = field::read(memory, 0, 32, false).unwrap_or(0);
+    let high = field::read(memory, 32, 32, false).unwrap_or(0);
     let counted = memory::changed(&zeros, memory);
     text(rt, "image of seed 1 over 4 words\n  words 1 and 0\t");
-    hex(rt, low.value as u64, 8);
+    hex(rt, u64::from(low), 8);
     text(rt, "\n  words 3 and 2\t");
-    hex(rt, high.value as u64, 8);
+    hex(rt, u64::from(high), 8);
     text(rt, "\n  bits that are 1\t");
     number(rt, counted.bits);
     text(rt, "\n");

@@ -1,12 +1,13 @@
 -- States of MOVE memory to register (the scope, "Fields"; 000 table 13-1). Assumes nothing.
-use Rattle.std.specs.Prelude.{Bool, cond, ℕ, ◌+◌, ◌%◌}
+use Rattle.std.specs.Prelude.{Bool, cond, Result, Ok, Err, ℕ, ◌+◌, ◌%◌}
+use Rattle.answers.specs.declared.Refused.{Refused}
+use Rattle.answers.specs.declared.Refused.TheVariants.{FieldSize}
 use Rattle.field_refusal.specs.Size.{bad_size, meant}
 use Rattle.timing.specs.Cycles.{case_of}
 use Rattle.timing.specs.declared.Case.{Case}
 use Rattle.timing.specs.declared.Case.TheVariants.{A, B, C, D, E, F, G}
 use Rattle.states.specs.declared.Mode.{Mode}
 use Rattle.states.specs.declared.Mode.TheVariants.{Indirect, Postincrement, Predecrement}
-use Rattle.states.specs.declared.States.{States}
 
 -- indirect, in cache: 3 for A, B; 5 for C to F; 7 for G
 abbrev pub cached_states : Case → ℕ
@@ -42,9 +43,8 @@ abbrev pub sign_states : Bool → ℕ
 sign_states signed = cond signed 1 0
 
 -- a state count refuses only 18
-unfoldable pub move_states : ℕ → ℕ → Mode → Bool → Bool → States
+unfoldable pub move_states : ℕ → ℕ → Mode → Bool → Bool → Result ℕ Refused
 move_states a size mode signed cached =
     let base = base_states (case_of (a % 16) (meant size)) cached in
-    cond (bad_size size)
-    (record { answer = 18; states = 0 })
-    (record { answer = 0; states = base + mode_states mode + sign_states signed })
+    cond (bad_size size) (Err FieldSize)
+    (Ok (base + mode_states mode + sign_states signed))

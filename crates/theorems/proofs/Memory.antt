@@ -3,6 +3,7 @@ use mathlib.Core.Path.{ap, ap₂, sym, ◌∙◌}
 use mathlib.Core.List.{List}
 use Prim.Native.Nat.{ℕ, ◌*◌, max}
 use native.Mathlib.Numerals.{add-one}
+use Rattle.answers.specs.Answer.{answer}
 use Rattle.memory.specs.Changed.{differing, changed_bits, differing_by_word}
 use Rattle.memory.proofs.MemoryLaws as memory
 use Rattle.memory.proofs.ChangedLaws as changed
@@ -41,7 +42,7 @@ pub write-back : WriteBack
 write-back = field.write-back
 
 pub past_end : PastEnd
-past_end = field.past_end
+past_end words a n some most size past = ap answer (field.past_end words a n some most size past)
 
 pub one-case : OneCase
 one-case = timing.one-case

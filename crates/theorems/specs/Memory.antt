@@ -2,7 +2,8 @@
 -- `image` cite, so a statement about `field_written` is one about the memory that `field::write`
 -- leaves. `Memory n m` says that m is a run of n words of 16 bits, as every lent run of u16 is. The
 -- proofs are in proofs/Memory.antt. Assumes nothing.
-use Rattle.std.specs.Prelude.{◌≡◌, Bool, true, false, List, ◌⊎◌, ℕ, ◌+◌, ◌*◌, ◌%◌, ◌^◌, ◌<◌, ◌≤◌, max, length, get_or}
+use Rattle.std.specs.Prelude.{◌≡◌, Bool, true, false, Ok, IsOkAnd, List, ◌⊎◌, ℕ, ◌+◌, ◌*◌, ◌%◌, ◌^◌, ◌<◌, ◌≤◌, max, length, get_or}
+use Rattle.answers.specs.Answer.{answer}
 use Rattle.memory.specs.Bits.{most_words, Memory, bit_at}
 use Rattle.memory.specs.Changed.{differing, changed_bits, word_difference, differing_by_word}
 use Rattle.field_refusal.specs.Size.{bad_size, meant}
@@ -47,9 +48,8 @@ ChangedByWord =
 -- size, address and memory that the write is not refused on.
 abbrev pub ReadBack : Type 0
 ReadBack =
-    (m : List ℕ) (a n x : ℕ) → field_refusal (length m) a n ≡ 0
-    → let back = field_read (field_written m a n x) a n false in
-    (back.answer ≡ 0) × (back.value ≡ x % 2 ^ meant n)
+    (m : List ℕ) (a n x : ℕ) → field_refusal (length m) a n ≡ Ok tt
+    → field_read (field_written m a n x) a n false ≡ Ok (x % 2 ^ meant n)
 
 -- A write leaves every bit outside the field alone.
 abbrev pub WriteFrame : Type 0
@@ -60,14 +60,15 @@ WriteFrame =
 -- Writing what was read changes nothing, zero or sign extended.
 abbrev pub WriteBack : Type 0
 WriteBack =
-    (m : List ℕ) (a n : ℕ) (signed : Bool) → Memory (length m) m → field_refusal (length m) a n ≡ 0
-    → field_written m a n (field_read m a n signed).value ≡ m
+    (m : List ℕ) (a n : ℕ) (signed : Bool) → Memory (length m) m
+    → field_refusal (length m) a n ≡ Ok tt
+    → IsOkAnd (field_read m a n signed) (λ value. field_written m a n value ≡ m)
 
 -- A field that would pass the end is refused with 17 and never wraps, at any address.
 abbrev pub PastEnd : Type 0
 PastEnd =
     (words a n : ℕ) → 0 < words → words ≤ most_words → bad_size n ≡ false → 16 * words < a + meant n
-    → field_refusal words a n ≡ 17
+    → answer (field_refusal words a n) ≡ 17
 
 -- Every alignment and number of bits is of exactly one of the cases A to G, and it is the one whose
 -- cycles and states are given.

@@ -1,7 +1,7 @@
 -- Demand 1 of the calls by name: a refused call returns its number and changes no word of memory,
 -- no register and no setting. (Each promise settles this already; here it is said of the
 -- definitions that the promises cite.) The proofs are in proofs/Refused.antt. Assumes nothing.
-use Rattle.std.specs.Prelude.{◌≡◌, Bool, true, false, List, ℕ, ◌≤◌, length}
+use Rattle.std.specs.Prelude.{◌≡◌, Bool, true, false, Ok, List, ℕ, ◌≤◌, length}
 use Rattle.memory.specs.Bits.{no_memory}
 use Rattle.field.specs.Field as field
 use Rattle.image.specs.Image.{imaged}
@@ -80,7 +80,7 @@ DravRefused =
 -- A field write, an image and a fetch.
 abbrev pub WriteRefused : Type 0
 WriteRefused =
-    (m : List ℕ) (a n x : ℕ) → (field.field_refusal (length m) a n ≡ 0 → ⊥)
+    (m : List ℕ) (a n x : ℕ) → (field.field_refusal (length m) a n ≡ Ok tt → ⊥)
     → field.field_written m a n x ≡ m
 
 abbrev pub ImageRefused : Type 0

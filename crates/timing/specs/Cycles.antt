@@ -1,6 +1,8 @@
 -- Memory cycles of a field move (the scope, "Fields"; 003 section 4.1), by the cases A to G of its
 -- n bits and s = a mod 16. Assumes nothing.
-use Rattle.std.specs.Prelude.{Bool, cond, ◌&&◌, List, [], ◌∷◌, ℕ, ◌+◌, ◌%◌, eqb, leb, ltb}
+use Rattle.std.specs.Prelude.{Bool, cond, ◌&&◌, Result, Ok, Err, List, [], ◌∷◌, ℕ, ◌+◌, ◌%◌, eqb, leb, ltb}
+use Rattle.answers.specs.declared.Refused.{Refused}
+use Rattle.answers.specs.declared.Refused.TheVariants.{FieldSize}
 use Rattle.field_refusal.specs.Size.{bad_size, meant}
 use Rattle.timing.specs.declared.Case.{Case}
 use Rattle.timing.specs.declared.Case.TheVariants.{A, B, C, D, E, F, G}
@@ -53,9 +55,8 @@ write_cycles F = 4
 write_cycles G = 5
 
 -- a cycle count refuses only 18
-unfoldable pub cycles_of : ℕ → ℕ → Cycles
+unfoldable pub cycles_of : ℕ → ℕ → Result Cycles Refused
 cycles_of a size =
     let case = case_of (a % 16) (meant size) in
-    cond (bad_size size)
-    (record { answer = 18; read = 0; write = 0 })
-    (record { answer = 0; read = read_cycles case; write = write_cycles case })
+    cond (bad_size size) (Err FieldSize)
+    (Ok (record { read = read_cycles case; write = write_cycles case }))

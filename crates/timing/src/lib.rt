@@ -5,8 +5,10 @@
 ghost use Rattle.std.specs.Prelude.{◌≡◌};
 ghost use Rattle.timing.specs.Cycles.{case_of, read_cycles, write_cycles, cycles_of};
 
+use answers::Refused;
+
 // The cases of a field's alignment and size (003 section 4.1).
-#[derive(Clone, Copy)]
+#[derive(Clone, Copy, Debug, PartialEq, Eq)]
 pub enum Case {
     A,
     B,
@@ -17,40 +19,33 @@ pub enum Case {
     G,
 }
 
-// The answer, 0 or the refusal's number, and the memory cycles of a read and of a write.
-#[derive(Clone, Copy)]
+// The memory cycles of a read and of a write.
+#[derive(Clone, Copy, Debug, PartialEq, Eq)]
 pub struct Cycles {
-    pub answer: u32,
     pub read: u32,
     pub write: u32,
 }
 
 // The memory cycles of a field move. The address is the field's own.
-pub fn field_cycles(address: u32, size: u32) -> Cycles
+#[tactic(auto, unfolding(crate::specs::Cycles::cycles_of))]
+pub fn field_cycles(address: u32, size: u32) -> Result<Cycles, Refused>
     ensures { result ≡ cycles_of address size }
 {
     if field_refusal::bad_size(size) {
-        return Cycles {
-            answer: 18,
-            read: 0,
-            write: 0,
-        };
+        return Err(Refused::FieldSize);
     }
     let case = case_of(address % 16, field_refusal::meant(size));
     let read = read_cycles(case);
     let write = write_cycles(case);
-    Cycles {
-        answer: 0,
-        read,
-        write,
-    }
+    Ok(Cycles { read, write })
 }
 
 // The case of a field at bit s of a word.
+#[tactic(auto, unfolding(crate::specs::Cycles::case_of))]
 pub fn case_of(s: u32, n: u32) -> Case
     ensures { result ≡ case_of s n }
 {
-    let end = s as u64 + n as u64;
+    let end = u64::from(s) + u64::from(n);
     if (s == 0) & (n == 16) {
         return Case::A;
     }
@@ -76,12 +71,8 @@ fn read_cycles(case: Case) -> u32
     ensures { result ≡ read_cycles case }
 {
     match case {
-        Case::A => 1,
-        Case::B => 1,
-        Case::C => 2,
-        Case::D => 2,
-        Case::E => 2,
-        Case::F => 2,
+        Case::A | Case::B => 1,
+        Case::C | Case::D | Case::E | Case::F => 2,
         Case::G => 3,
     }
 }
@@ -91,10 +82,8 @@ fn write_cycles(case: Case) -> u32
 {
     match case {
         Case::A => 1,
-        Case::B => 2,
-        Case::C => 2,
-        Case::D => 3,
-        Case::E => 3,
+        Case::B | Case::C => 2,
+        Case::D | Case::E => 3,
         Case::F => 4,
         Case::G => 5,
     }

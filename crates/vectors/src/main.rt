@@ -6,10 +6,12 @@
 ghost use Rattle.std.specs.Prelude.{◌<◌, ◌≤◌};
 ghost use Rattle.io.specs.Counts.{IsPrefixLen};
 
+use answers::answer;
 use cache::{Cache, Kind};
 use segments::Segment;
 use states::Mode;
 use std::io::Read;
+use timing::Cycles;
 
 // Counts are held by the kind's number: 0 for lines of no kind, 8 for all lines.
 fn main(rt: HostRuntime) {
@@ -118,37 +120,32 @@ fn read_agrees(n: [u32; 20]) -> bool {
     let words = held(n[1], &m);
     let r = field::read(&mut m[..words], n[2], n[3], n[4] == 1);
     let kept = are_words(m, n[5], n[6], n[7], n[8]);
-    (n[1] <= 4) & (r.answer == n[9]) & (r.value == n[10]) & kept
+    (n[1] <= 4) & (answer(&r) == n[9]) & (r.unwrap_or(0) == n[10]) & kept
 }
 
 // 2: words, address, size, value, m0..m3, answer, m0..m3 after.
 fn write_agrees(n: [u32; 20]) -> bool {
     let mut m = [word(n[5]), word(n[6]), word(n[7]), word(n[8])];
     let words = held(n[1], &m);
-    let answer = field::write(&mut m[..words], n[2], n[3], n[4]);
+    let r = field::write(&mut m[..words], n[2], n[3], n[4]);
     let after = are_words(m, n[10], n[11], n[12], n[13]);
-    (n[1] <= 4) & (answer == n[9]) & after
+    (n[1] <= 4) & (answer(&r) == n[9]) & after
 }
 
 // 3: address, size, answer, read cycles, write cycles.
 fn cycles_agree(n: [u32; 20]) -> bool {
     let r = timing::field_cycles(n[1], n[2]);
-    (r.answer == n[3]) & (r.read == n[4]) & (r.write == n[5])
+    let cycles = r.unwrap_or(Cycles { read: 0, write: 0 });
+    (answer(&r) == n[3]) & (cycles.read == n[4]) & (cycles.write == n[5])
 }
 
 // 4: address, size, mode, signed, cached, answer, states.
 fn states_agree(n: [u32; 20]) -> bool {
-    match n[3] {
-        0 => states_of(n, Mode::Indirect),
-        1 => states_of(n, Mode::Postincrement),
-        2 => states_of(n, Mode::Predecrement),
-        _ => false,
-    }
-}
-
-fn states_of(n: [u32; 20], mode: Mode) -> bool {
+    let Ok(mode) = Mode::try_from(n[3]) else {
+        return false;
+    };
     let r = states::move_states(n[1], n[2], mode, n[4] == 1, n[5] == 1);
-    (r.answer == n[6]) & (r.states == n[7])
+    (answer(&r) == n[6]) & (r.unwrap_or(0) == n[7])
 }
 
 // 5: start0..start3, flags, order, address, control, kind, start0..start3, flags, order after.
