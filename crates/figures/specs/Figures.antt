@@ -1,6 +1,6 @@
 -- The scope's "Figures at the edge" that are marked P: one table, with one proof. The definitions
 -- are those that contracts cite. Assumes nothing.
-use Rattle.std.specs.Prelude.{◌≡◌, Bool, true, false, List, [], ◌∷◌, ℕ, ◌%◌}
+use Rattle.std.specs.Prelude.{◌≡◌, Bool, true, false, List, [], ◌∷◌, ℕ, ◌%◌, Ok}
 use Rattle.field.specs.Field.{field_read}
 use Rattle.timing.specs.Cycles.{case_of}
 use Rattle.timing.specs.declared.Case.TheVariants.{F}
@@ -140,14 +140,13 @@ pub record Figures : Type 0 where
   pub point : indices two_and_three 4 ≡ 1 ∷ 1 ∷ []
   pub point-past : points.point_refusal two_and_three 6 ≡ 24
   -- DRAV from 0000FFFFh with step 1, W=3, window from 0,0: not drawn, V=1, new point 0
-  pub drav : drav_of drav_settings false 0x0000FFFF 1
+  pub drav : drav_of drav_settings 0x0000FFFF 1
       (xy_destination 64 drav_settings 0x0000FFFF false)
-      ≡ record {
-        answer = 0;
+      ≡ Ok record {
         visited = 0;
         v = true;
         request = false;
-        point = 0;
+        register = 0;
         settings = drav_settings;
       }
   pub drav-memory : (source : ℕ) (m : List ℕ)
