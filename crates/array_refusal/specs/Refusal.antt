@@ -1,6 +1,8 @@
 -- What the refusals 13 to 17 test of a FILL or PIXBLT call, in the table's order (the scope,
 -- "Refusal numbers"), and the refusal of a call. Assumes nothing.
-use Rattle.std.specs.Prelude.{Bool, cond, not, ◌&&◌, ◌||◌, ℕ, eqb, ltb}
+use Rattle.std.specs.Prelude.{Bool, cond, not, ◌&&◌, ◌||◌, ℕ, eqb, ltb, Result, ⊤}
+use Rattle.answers.specs.declared.Refused.{Refused}
+use Rattle.answers.specs.Answer.{answer}
 use Rattle.address.specs.Coordinate.{outside_xy}
 use Rattle.address.specs.Address.{bad_xy_pitch, bad_linear_pitch, misaligned}
 use Rattle.extent.specs.Extent.{leaves_memory}
@@ -59,9 +61,11 @@ tests_of op s c d place words =
       end = leaves words op d;
     }
 
-unfoldable pub refusal_of : Operation → Settings → Clipped → Drawing → ℕ → ℕ → ℕ
+unfoldable pub refusal_of : Operation → Settings → Clipped → Drawing → ℕ → ℕ
+    → Result ⊤ Refused
 refusal_of op s c d place words = lowest words s (tests_of op s c d place words)
 
--- the refusal of a call: the lowest number that applies, or 0
+-- the number of a call's refusal: the lowest that applies, or 0
 unfoldable pub refusal : Operation → Settings → ℕ → ℕ → ℕ
-refusal op s place words = refusal_of op s (clipped_array op s) (drawing_for op s) place words
+refusal op s place words =
+    answer (refusal_of op s (clipped_array op s) (drawing_for op s) place words)

@@ -5,13 +5,15 @@ ghost use Rattle.std.specs.Prelude.{◌≡◌};
 ghost use Rattle.array_refusal.specs.Refusal.{bad_pitch, bad_pitches, negative_start, bad_dest};
 ghost use Rattle.array_refusal.specs.Refusal.{bad_source, bad_start, leaves, refusal_of};
 
+use answers::Refused;
 use operation::Operation;
 use plot::Drawing;
 use refusal::Tests;
 use settings::Settings;
 use windows::Clipped;
 
-// The refusal's number, or 0.
+// The refusal, if there is one.
+#[tactic(auto, unfolding(crate::specs::Refusal::refusal_of))]
 pub fn refusal_of(
     op: Operation,
     s: Settings,
@@ -19,7 +21,7 @@ pub fn refusal_of(
     d: Drawing,
     place: u64,
     words: usize,
-) -> u32
+) -> Result<(), Refused>
     ensures { result ≡ refusal_of op s c d place words }
 {
     let pitch = bad_pitches(op, s);

@@ -3,8 +3,6 @@
 
 ghost use Rattle.c_drav.specs.Calls.{DravCall};
 
-use c_arrays::BAD_CALL;
-
 // DRAV: draws the pixel at the point in COLOR1; out[3] is the point advanced by the step.
 pub fn drav(
     memory: &mut [u16],
@@ -17,11 +15,7 @@ pub fn drav(
     ensures { DravCall memory.old settings.now step point v
         out.old result memory.new out.new }
 {
-    if c_lone::bad_pixel(settings, out.len()) {
-        return BAD_CALL;
-    }
-    let s = c_arrays::settings_in(settings);
-    let r = drav::drav(memory, s, step, point, v != 0);
-    c_lone::hand_out(out, r.visited, r.v, r.request, r.point);
-    r.answer
+    c_lone::pixel_call(memory, settings, v, point, out, |memory, s, flag| {
+        drav::drav(memory, s, step, point, flag)
+    })
 }

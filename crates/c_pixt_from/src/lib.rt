@@ -3,8 +3,6 @@
 
 ghost use Rattle.c_pixt_from.specs.Calls.{PixtFromLinearCall, PixtFromXYCall};
 
-use c_arrays::BAD_CALL;
-
 // PIXT memory at a linear address to register. The memory stays as lent.
 pub fn pixt_from_linear(
     memory: &mut [u16],
@@ -16,13 +14,9 @@ pub fn pixt_from_linear(
     ensures { PixtFromLinearCall memory.old settings.now address v
         out.old result memory.new out.new }
 {
-    if c_lone::bad_pixel(settings, out.len()) {
-        return BAD_CALL;
-    }
-    let s = c_arrays::settings_in(settings);
-    let r = pixt::pixt_from_linear(memory, s, address, v != 0);
-    c_lone::hand_out(out, r.visited, r.v, r.request, r.value);
-    r.answer
+    c_lone::pixel_call(memory, settings, v, 0, out, |memory, s, flag| {
+        pixt::pixt_from_linear(memory, s, address, flag)
+    })
 }
 
 // PIXT memory at an XY address to register. The memory stays as lent.
@@ -30,11 +24,7 @@ pub fn pixt_from_xy(memory: &mut [u16], settings: &[u32], xy: u32, v: u32, out: 
     ensures { PixtFromXYCall memory.old settings.now xy v
         out.old result memory.new out.new }
 {
-    if c_lone::bad_pixel(settings, out.len()) {
-        return BAD_CALL;
-    }
-    let s = c_arrays::settings_in(settings);
-    let r = pixt::pixt_from_xy(memory, s, xy, v != 0);
-    c_lone::hand_out(out, r.visited, r.v, r.request, r.value);
-    r.answer
+    c_lone::pixel_call(memory, settings, v, 0, out, |memory, s, flag| {
+        pixt::pixt_from_xy(memory, s, xy, flag)
+    })
 }

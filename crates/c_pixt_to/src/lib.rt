@@ -3,8 +3,6 @@
 
 ghost use Rattle.c_pixt_to.specs.Calls.{PixtToLinearCall, PixtToXYCall};
 
-use c_arrays::BAD_CALL;
-
 // PIXT register to memory at a linear address.
 pub fn pixt_to_linear(
     memory: &mut [u16],
@@ -17,13 +15,9 @@ pub fn pixt_to_linear(
     ensures { PixtToLinearCall memory.old settings.now value address v
         out.old result memory.new out.new }
 {
-    if c_lone::bad_pixel(settings, out.len()) {
-        return BAD_CALL;
-    }
-    let s = c_arrays::settings_in(settings);
-    let r = pixt::pixt_to_linear(memory, s, value, address, v != 0);
-    c_lone::hand_out(out, r.visited, r.v, r.request, r.value);
-    r.answer
+    c_lone::pixel_call(memory, settings, v, 0, out, |memory, s, flag| {
+        pixt::pixt_to_linear(memory, s, value, address, flag)
+    })
 }
 
 // PIXT register to memory at an XY address.
@@ -38,11 +32,7 @@ pub fn pixt_to_xy(
     ensures { PixtToXYCall memory.old settings.now value xy v
         out.old result memory.new out.new }
 {
-    if c_lone::bad_pixel(settings, out.len()) {
-        return BAD_CALL;
-    }
-    let s = c_arrays::settings_in(settings);
-    let r = pixt::pixt_to_xy(memory, s, value, xy, v != 0);
-    c_lone::hand_out(out, r.visited, r.v, r.request, r.value);
-    r.answer
+    c_lone::pixel_call(memory, settings, v, 0, out, |memory, s, flag| {
+        pixt::pixt_to_xy(memory, s, value, xy, flag)
+    })
 }

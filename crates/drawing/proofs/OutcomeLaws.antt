@@ -1,5 +1,5 @@
 -- What a call hands back and leaves, refused or not, and how its answer says which. No contract cites this file. Assumes nothing.
-use mathlib.Core.Path.{◌≡◌, refl, sym, ap}
+use mathlib.Core.Path.{◌≡◌, refl, sym, ap, ◌∙◌}
 use mathlib.Core.Logic.{◌≢◌, by_cases}
 use mathlib.Core.Bool.{Bool, true, false, cond}
 use mathlib.Core.List.{List}
@@ -9,17 +9,31 @@ use native.Mathlib.Omega.{arith}
 use borrow.Author.Tests.{eq-eqb, ne_eqb}
 use lib.Dec.{eqb}
 use lib.ListN.{length}
+use Rattle.std.specs.Prelude.{Result, ⊤}
+use Rattle.answers.specs.declared.Refused.{Refused}
+use Rattle.answers.specs.Answer.{answer}
+use Rattle.windows.specs.declared.Clipped.{Clipped}
+use Rattle.plot.specs.declared.Drawing.{Drawing}
 use Rattle.settings.specs.declared.Settings.{Settings}
 use Rattle.plot.specs.Drawing.{pixels}
 use Rattle.engine.specs.Engine.{visits}
 use Rattle.operation.specs.declared.Operation.{Operation}
-use Rattle.arrays.specs.Array.{clipped_array, v_after, drawing_for}
-use Rattle.array_refusal.specs.Refusal.{refusal}
+use Rattle.arrays.specs.Array.{clipped_array, v_after, drawing_of, drawing_for}
+use Rattle.array_refusal.specs.Refusal.{refusal_of, refusal}
 use Rattle.array_refusal.proofs.RefusalLaws.{refusal-number}
 use Rattle.drawing.specs.declared.Outcome.{Outcome}
 use Rattle.drawing.specs.Draw.{refused_call, outcome_at, visited_by, outcome, drawn}
 
 module _ (op : Operation) (s : Settings) where
+  -- ---- the drawing and the refusal that a call works out are the call's
+  module _ {c : Clipped} {d : Drawing} (array-is : c ≡ clipped_array op s) (is-of : d ≡ drawing_of op s c) where
+    pub drawing-is : d ≡ drawing_for op s
+    drawing-is = is-of ∙ ap (drawing_of op s) array-is
+
+    pub refusal-is : {r : Result ⊤ Refused} (k w : ℕ) → r ≡ refusal_of op s c d k w → refusal op s k w ≡ answer r
+    unfolding refusal
+    refusal-is k w e = ap answer (sym (e ∙ (λ i. refusal_of op s (array-is i) (drawing-is i) k w)))
+
   -- ---- a call that is not refused, and one that is
   abbrev pub at : Bool → ℕ → ℕ → Outcome
   at v place visited = outcome_at op s (clipped_array op s) (drawing_for op s) v place visited

@@ -178,9 +178,8 @@ fn call(
 {
     let c = arrays::clipped_array(op, s);
     let d = arrays::drawing_of(op, s, c);
-    let answer = array_refusal::refusal_of(op, s, c, d, place, words);
-    if answer != 0 {
-        return refused(s, place, v, answer);
+    if let Err(r) = array_refusal::refusal_of(op, s, c, d, place, words) {
+        return refused(s, place, v, u32::from(r));
     }
     let visited = visit(memory, d, place, budget, dry);
     let after = arrays::v_after(op, s, v);

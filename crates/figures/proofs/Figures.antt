@@ -15,7 +15,6 @@ use Rattle.walk.specs.Walk.{address_at, address_of}
 use Rattle.extent.specs.Extent.{reaches, leaves_memory}
 use Rattle.refusal.specs.Refusal.{lowest}
 use Rattle.lone.specs.Lone.{xy_destination}
-use Rattle.drav.specs.Drav.{drav_of}
 use Rattle.arrays.specs.Array.{clipped_array, v_after, dest_start, src_start, chosen_walk, drawing_of}
 use Rattle.array_refusal.specs.Refusal.{refusal_of}
 use Rattle.array_refusal.specs.Refusal as drawing
@@ -29,7 +28,7 @@ unfolding bit_of bit_at bits_number meant field_refusal register field_read case
     fetched
     pixel_operations processed pixel_of result pixel_after with_pixel word_after xy_address bad_xy_pitch common clipped address_at
     address_of
-    reaches leaves_memory lowest xy_destination drav_of clipped_array v_after v_under dest_start src_start chosen_walk drawing_of refusal_of
+    reaches leaves_memory lowest xy_destination clipped_array v_after v_under dest_start src_start chosen_walk drawing_of refusal_of
     drawing.refusal outcome_at outcome axis_length count indices
 figures =
     record {

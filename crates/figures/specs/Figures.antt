@@ -139,14 +139,13 @@ pub record Figures : Type 0 where
   pub point : indices two_and_three 4 ≡ 1 ∷ 1 ∷ []
   pub point-past : points.point_refusal two_and_three 6 ≡ 24
   -- DRAV from 0000FFFFh with step 1, W=3, window from 0,0: not drawn, V=1, new point 0
-  pub drav : drav_of drav_settings false 0x0000FFFF 1
+  pub drav : drav_of drav_settings 0x0000FFFF 1
       (xy_destination 64 drav_settings 0x0000FFFF false)
-      ≡ record {
-        answer = 0;
+      ≡ Ok record {
         visited = 0;
         v = true;
         request = false;
-        point = 0;
+        register = 0;
         settings = drav_settings;
       }
   pub drav-memory : (source : ℕ) (m : List ℕ)

@@ -1,103 +1,100 @@
 // A lone pixel: its refusal, whether it is shown, and where it is.
 #![tactic(auto)]
 
-ghost use Rattle.std.specs.Prelude.{◌≡◌, ◌*◌, leb};
-ghost use Rattle.lone.specs.Lone.{bad_lone_start, pixel_address, rectangle_at, lone_clip, lone_v};
-ghost use Rattle.lone.specs.Lone.{lone_refusal, linear_pixel, xy_source, xy_destination};
+ghost use Rattle.std.specs.Prelude.{◌≡◌};
+ghost use Rattle.lone.specs.Lone.{past_end, bad_lone_start, pixel_address, rectangle_at};
+ghost use Rattle.lone.specs.Lone.{lone_clip, lone_v, linear_pixel, xy_source, xy_destination};
 
+use answers::Refused;
 use refusal::Tests;
 use settings::Settings;
 use windows::{Clipped, Rectangle};
 
-// A lone pixel: the refusal's number or 0, whether there is a pixel to draw or read, its address, V
-// and the request.
+// A lone pixel: the address at which it is drawn or read, unless the window hides it; V and the
+// request.
 #[derive(Clone, Copy)]
 pub struct Lone {
-    pub answer: u32,
-    pub some: bool,
-    pub address: u32,
+    pub pixel: Option<u32>,
     pub v: bool,
     pub request: bool,
 }
 
-pub fn linear_pixel(words: usize, s: Settings, address: u32, v: bool) -> Lone
+#[tactic(auto, unfolding(crate::specs::Lone::linear_pixel))]
+pub fn linear_pixel(words: usize, s: Settings, address: u32, v: bool) -> Result<Lone, Refused>
     ensures { result ≡ linear_pixel words s address v }
 {
     let start = address::misaligned(s.psize, address);
-    let answer = refusal_of(words, s, false, false, true, start, address);
-    Lone {
-        answer,
-        some: true,
-        address,
+    let end = past_end(words, address);
+    let tests = Tests {
+        pitch: false,
+        window: false,
+        place: false,
+        start,
+        end,
+    };
+    refusal::lowest(words, s, tests)?;
+    Ok(Lone {
+        pixel: Some(address),
         v,
         request: false,
-    }
+    })
 }
 
-pub fn xy_source(words: usize, s: Settings, xy: u32, v: bool) -> Lone
+#[tactic(auto, unfolding(crate::specs::Lone::xy_source))]
+pub fn xy_source(words: usize, s: Settings, xy: u32, v: bool) -> Result<Lone, Refused>
     ensures { result ≡ xy_source words s xy v }
 {
     let address = pixel_address(s, xy);
     let pitch = address::bad_xy_pitch(s.dptch);
     let start = bad_start(s, xy, address);
-    let answer = refusal_of(words, s, pitch, false, true, start, address);
-    Lone {
-        answer,
-        some: true,
-        address,
+    let end = past_end(words, address);
+    let tests = Tests {
+        pitch,
+        window: false,
+        place: false,
+        start,
+        end,
+    };
+    refusal::lowest(words, s, tests)?;
+    Ok(Lone {
+        pixel: Some(address),
         v,
         request: false,
-    }
+    })
 }
 
-pub fn xy_destination(words: usize, s: Settings, xy: u32, v: bool) -> Lone
+#[tactic(auto, unfolding(crate::specs::Lone::xy_destination))]
+pub fn xy_destination(words: usize, s: Settings, xy: u32, v: bool) -> Result<Lone, Refused>
     ensures { result ≡ xy_destination words s xy v }
 {
     let address = pixel_address(s, xy);
     let pitch = address::bad_xy_pitch(s.dptch);
     let window = refusal::bad_window_of(true, s);
     let c = windowed(s, xy);
-    let after = v_after(s, xy, v);
-    let some = !((c.cols == 0) | (c.rows == 0));
+    let shown = !((c.cols == 0) | (c.rows == 0));
     let start = bad_start(s, xy, address);
-    let answer = refusal_of(words, s, pitch, window, some, start, address);
-    Lone {
-        answer,
-        some,
-        address,
-        v: after,
-        request: c.request,
-    }
-}
-
-// The refusal's number, or 0.
-fn refusal_of(
-    words: usize,
-    s: Settings,
-    pitch: bool,
-    window: bool,
-    some: bool,
-    start: bool,
-    address: u32,
-) -> u32
-    ensures { result ≡ lone_refusal words s pitch window some start address }
-{
-    let past = past_end(words, address);
+    let end = past_end(words, address);
     let tests = Tests {
         pitch,
         window,
         place: false,
-        start: some & start,
-        end: some & past,
+        start: shown & start,
+        end: shown & end,
     };
-    refusal::lowest(words, s, tests)
+    refusal::lowest(words, s, tests)?;
+    let after = v_after(s, xy, v);
+    Ok(Lone {
+        pixel: shown.then_some(address),
+        v: after,
+        request: c.request,
+    })
 }
 
 // Does an address lie past the memory's end?
 fn past_end(words: usize, address: u32) -> bool
-    ensures { result ≡ leb (16 * words) address }
+    ensures { result ≡ past_end words address }
 {
-    words as u64 <= (address / 16) as u64
+    words as u64 <= u64::from(address / 16)
 }
 
 // The linear address of an XY pixel.
@@ -108,8 +105,8 @@ fn pixel_address(s: Settings, xy: u32) -> u32
         s.offset,
         s.dptch,
         s.psize,
-        address::x_of(xy) as u32,
-        address::y_of(xy) as u32,
+        u32::from(address::x_of(xy)),
+        u32::from(address::y_of(xy)),
     )
 }
 
@@ -118,7 +115,7 @@ fn bad_start(s: Settings, xy: u32, address: u32) -> bool
     requires { address ≡ pixel_address s xy }
     ensures { result ≡ bad_lone_start s xy }
 {
-    let outside = address::outside_xy(address::x_of(xy) as u32, address::y_of(xy) as u32);
+    let outside = address::outside_xy(u32::from(address::x_of(xy)), u32::from(address::y_of(xy)));
     outside | address::misaligned(s.psize, address)
 }
 

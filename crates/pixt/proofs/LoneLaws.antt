@@ -1,26 +1,31 @@
 -- A lone pixel drawn from a register: where the call is not refused the pixel lies in one word, so that the register's bits, shifted to
 -- the pixel's place, are found there again. No contract cites this file. Assumes nothing.
 use mathlib.Core.Path.{◌≡◌, refl, sym, ap, subst, ◌∙◌}
-use mathlib.Core.Bool.{Bool, true, false, cond, ◌&&◌, and-eq-true_iff}
-use mathlib.Core.List.{List}
+use mathlib.Core.Bool.{Bool, true, false, ◌&&◌}
 use Prim.Native.Nat.{ℕ, ◌+◌, ◌-◌, ◌*◌, ◌/◌, ◌%◌, ◌^◌, ◌≤◌}
 use native.Mathlib.Omega.{arith}
 use borrow.Author.Tests.{eqb-true, not-false}
 use lib.Bits.{bit_and, and_mask}
-use lib.Dec.{eqb}
 use lib.Pow.{field, shl-shr, mod-mod-pow}
 use Rattle.memory.proofs.Tests.{or-false-right}
-use Rattle.control.specs.Control.{transparency, processing}
-use Rattle.pixel.specs.Pixel.{bad_pixel_size, top_of, pixel_of, plotted}
+use Rattle.pixel.specs.Pixel.{bad_pixel_size, top_of, pixel_of}
 use Rattle.pixel.proofs.SizeLaws.{size-le, aligned-fits, top_of-ones}
 use Rattle.pixel.proofs.PixelLaws.{pixel_of-mod}
 use Rattle.address.specs.Coordinate.{x_of, y_of, outside_xy}
 use Rattle.address.specs.Address.{misaligned}
 use Rattle.settings.specs.declared.Settings.{Settings}
+use Rattle.address.specs.Address.{bad_xy_pitch}
+use Rattle.refusal.specs.Refusal.{bad_window_of}
+use Rattle.std.specs.Prelude.{Option, Some, Result, Ok, Err, IfSome, ⊤}
+use Rattle.std.specs.Option.{unwrap_or}
+use Rattle.std.specs.Bool.{then_some}
+use Rattle.std.specs.Result.{result_and, result_unwrap_or}
+use Rattle.answers.specs.declared.Refused.{Refused}
+use Rattle.answers.specs.Answer.{answer}
 use Rattle.refusal.proofs.RefusalLaws as table
 use Rattle.lone.specs.declared.Lone.{Lone}
-use Rattle.lone.specs.Lone.{lone_tests, lone_refusal, linear_pixel, pixel_address, bad_lone_start, xy_destination}
-use Rattle.pixt.specs.Pixt.{lone_drawn, low_bits}
+use Rattle.lone.specs.Lone.{lone_tests, lone_refusal, linear_pixel, pixel_address, bad_lone_start, lone_clip, shown, xy_destination}
+use Rattle.pixt.specs.Pixt.{low_bits}
 
 -- ---- a register's bits at a place in a word
 shifted_back : (i p k value : ℕ) → value * 2 ^ k % 2 ^ (i + p + k) / 2 ^ k % 2 ^ p ≡ value % 2 ^ p
@@ -38,53 +43,61 @@ pixel_of-shifted p a value h =
     ∙ sym (and_mask (value % 2 ^ 16) p ∙ subst (λ (n : ℕ). value % 2 ^ n % 2 ^ p ≡ value % 2 ^ p) f (mod-mod-pow value (16 - p) p))
 
 -- ---- a pixel that is drawn has a size, and is aligned
-abbrev pub Aligned : Settings → Lone → Type 0
-Aligned s l = (eqb l.answer 0 && l.some) ≡ true → (bad_pixel_size s.psize ≡ false) × (misaligned s.psize l.address ≡ false)
+abbrev pub Aligned : Settings → ℕ → Type 0
+Aligned s a = (bad_pixel_size s.psize ≡ false) × (misaligned s.psize a ≡ false)
+
+-- what is drawn from the shifted bits is what is drawn from the register
+pub shifted-low_bits : (s : Settings) (value a : ℕ) → Aligned s a
+    → pixel_of (top_of s.psize) (value * 2 ^ (a % 16) % 2 ^ 16) a ≡ low_bits s value
+shifted-low_bits s value a (size, even) =
+    let fit = aligned-fits s.psize size a (eqb-true _ 0 (not-false _ even)) in
+    rw (top_of-ones s.psize (size-le s.psize size)) (pixel_of-shifted s.psize a value fit)
+
+-- a pixel whose call is not refused
+accepted : (r : Result ⊤ Refused) (l l' : Lone) → result_and r (Ok l) ≡ Ok l' → (answer r ≡ 0) × (l ≡ l')
+accepted (Ok u) l l' e = (refl, ap (λ (r : Result Lone Refused). result_unwrap_or r l) e)
+accepted (Err r) l l' e = absurd cc
 
 module _ (words : ℕ) (s : Settings) where
-  passes : (pitch window some start : Bool) (a : ℕ) → lone_refusal words s pitch window some start a ≡ 0 → some ≡ true
+  passes : (pitch window some start : Bool) (a : ℕ) → answer (lone_refusal words s pitch window some start a) ≡ 0 → some ≡ true
       → (bad_pixel_size s.psize ≡ false) × (start ≡ false)
   passes pitch window some start a e h =
       let p = table.passes words s (lone_tests words pitch window some start a) e in
       (p.size, sym (ap (λ (b : Bool). b && start) h) ∙ p.start)
 
-  pub linear_pixel-aligned : (a : ℕ) (v : Bool) → Aligned s (linear_pixel words s a v)
+  pub linear_pixel-aligned : (a : ℕ) (v : Bool) (l : Lone) → linear_pixel words s a v ≡ Ok l → IfSome l.pixel (Aligned s)
   unfolding linear_pixel
-  linear_pixel-aligned a v e = passes _ _ true _ a (eqb-true _ 0 ((and-eq-true_iff _ true).0 e).0) refl
+  linear_pixel-aligned a v l e =
+      let p = accepted (lone_refusal words s false false true (misaligned s.psize a) a) _ l e in
+      subst (λ (l : Lone). IfSome l.pixel (Aligned s)) p.1 (passes _ _ true _ a p.0 refl)
 
-  pub xy_destination-aligned : (xy : ℕ) (v : Bool) → Aligned s (xy_destination words s xy v)
+  pub xy_destination-aligned : (xy : ℕ) (v : Bool) (l : Lone) → xy_destination words s xy v ≡ Ok l → IfSome l.pixel (Aligned s)
   unfolding xy_destination
-  xy_destination-aligned xy v e =
-      let l : Lone = xy_destination words s xy v in
-      let accepted : l.answer ≡ 0 = eqb-true _ 0 ((and-eq-true_iff _ l.some).0 e).0 in
-      let shown : l.some ≡ true = ((and-eq-true_iff (eqb l.answer 0) _).0 e).1 in
-      let p = passes _ _ l.some (bad_lone_start s xy) (pixel_address s xy) accepted shown in
-      (p.0, or-false-right (outside_xy (x_of xy) (y_of xy)) _ p.1)
-
--- ---- what is drawn from the shifted bits is what is drawn from the register
-module _ (s : Settings) (value : ℕ) (m : List ℕ) where
-  drawn_at-shifted : (l : Lone) → Aligned s l
-      → lone_drawn s l (pixel_of (top_of s.psize) (value * 2 ^ (l.address % 16) % 2 ^ 16) l.address) m
-      ≡ lone_drawn s l (low_bits s value) m
-  drawn_at-shifted l h = go (eqb l.answer 0 && l.some) h
+  xy_destination-aligned xy v l e =
+      let p = accepted (lone_refusal words s (bad_xy_pitch s.dptch) (bad_window_of true s) seen (bad_lone_start s xy) at) _ l e in
+      subst (λ (l : Lone). IfSome l.pixel (Aligned s)) p.1 (go seen p.0)
     where
-      drawn : ℕ → List ℕ
-      drawn source = plotted (processing s.control) (transparency s.control) (top_of s.psize) s.pmask l.address source m
+      seen : Bool
+      seen = shown (lone_clip s xy)
 
-      go : (b : Bool) → (b ≡ true → (bad_pixel_size s.psize ≡ false) × (misaligned s.psize l.address ≡ false))
-          → cond b (drawn (pixel_of (top_of s.psize) (value * 2 ^ (l.address % 16) % 2 ^ 16) l.address)) m
-          ≡ cond b (drawn (low_bits s value)) m
-      go false k = refl
-      go true k =
-          let size = (k refl).0 in
-          let fit = aligned-fits s.psize size l.address (eqb-true _ 0 (not-false _ (k refl).1)) in
-          ap drawn (rw (top_of-ones s.psize (size-le s.psize size)) (pixel_of-shifted s.psize l.address value fit))
+      at : ℕ
+      at = pixel_address s xy
 
-  -- the same by the equations that the calls give
-  pub drawn-register : {l l' : Lone} {color : ℕ} {m' : List ℕ} → l ≡ l' → Aligned s l' → color ≡ value * 2 ^ (l.address % 16) % 2 ^ 16
-      → m' ≡ lone_drawn s l (pixel_of (top_of s.psize) color l.address) m → m' ≡ lone_drawn s l' (low_bits s value) m
-  drawn-register {l} {l'} e h k d =
-      d
-      ∙ ap (λ (color : ℕ). lone_drawn s l (pixel_of (top_of s.psize) color l.address) m) k
-      ∙ ap (λ (x : Lone). lone_drawn s x (pixel_of (top_of s.psize) (value * 2 ^ (x.address % 16) % 2 ^ 16) x.address) m) e
-      ∙ drawn_at-shifted l' h
+      go : (b : Bool) → answer (lone_refusal words s (bad_xy_pitch s.dptch) (bad_window_of true s) b (bad_lone_start s xy) at) ≡ 0
+          → IfSome (then_some b at) (Aligned s)
+      go false h = tt
+      go true h =
+          let q = passes _ _ true (bad_lone_start s xy) at h refl in
+          (q.0, or-false-right (outside_xy (x_of xy) (y_of xy)) _ q.1)
+
+  -- the pixel that an XY destination has lies at its address
+  pub xy_destination-at : (xy : ℕ) (v : Bool) (l : Lone) (a : ℕ) → xy_destination words s xy v ≡ Ok l → l.pixel ≡ Some a
+      → a ≡ pixel_address s xy
+  unfolding xy_destination
+  xy_destination-at xy v l a e h =
+      let p = accepted (lone_refusal words s (bad_xy_pitch s.dptch) (bad_window_of true s) _ (bad_lone_start s xy) _) _ l e in
+      go (shown (lone_clip s xy)) (ap (λ (l : Lone). l.pixel) p.1 ∙ h)
+    where
+      go : (b : Bool) → then_some b (pixel_address s xy) ≡ Some a → a ≡ pixel_address s xy
+      go true k = sym (ap (λ (o : Option ℕ). unwrap_or o a) k)
+      go false k = absurd cc

@@ -2,6 +2,7 @@
 use mathlib.Core.Path.{◌≡◌, refl}
 use mathlib.Core.Logic.{◌≢◌}
 use mathlib.Core.Bool.{Bool, true, false, cond}
+use Rattle.std.specs.Prelude.{Result, Err, ⊤}
 use Prim.Native.Nat.{ℕ, ◌≤◌}
 use native.Mathlib.Omega.{arith}
 use Rattle.memory.specs.Bits.{no_memory}
@@ -9,37 +10,61 @@ use Rattle.control.specs.Control.{bad_control}
 use Rattle.pixel.specs.Pixel.{bad_pixel_size}
 use Rattle.settings.specs.declared.Settings.{Settings}
 use Rattle.refusal.specs.declared.Tests.{Tests}
+use Rattle.answers.specs.declared.Refused.{Refused}
+use Rattle.answers.specs.declared.Refused.TheVariants.{Arguments, Memory, PixelSize, Control, Pitch, Window, Place, Start, End, FieldSize, CacheState, Form, Name, Value, Count, Point}
+use Rattle.answers.specs.Answer.{refusal_number, answer}
 use Rattle.refusal.specs.Refusal.{lowest}
 
--- ---- one test, which gives n from 10 to 17, before the rest r of the table
+-- ---- one test, of a refusal numbered from 10 to 17, before the rest d of the table
 
 -- a number of the table: 0, or from 10 to 17
 pub record Number (r : ℕ) : Type 0 where
   pub least : r ≢ 0 → 10 ≤ r
   pub most : r ≤ 17
 
-number : (t : Bool) (n r : ℕ) → 10 ≤ n → n ≤ 17 → Number r → Number (cond t n r)
-number true n r h k d = record { least = λ z. h; most = k }
-number false n r h k d = d
+number : (t : Bool) (r : Refused) (d : Result ⊤ Refused) → 10 ≤ refusal_number r → refusal_number r ≤ 17 → Number (answer d)
+    → Number (answer (cond t (Err r) d))
+number true r d h k n = record { least = λ z. h; most = k }
+number false r d h k n = n
 
--- where the number is 0 the test is false, and the rest is 0
-pass : (t : Bool) (n r : ℕ) → 10 ≤ n → cond t n r ≡ 0 → (t ≡ false) × (r ≡ 0)
-pass true n r h e = absurd (omega arith)
-pass false n r h e = (refl, e)
+-- no refusal has the number 0
+pub numbered : (r : Refused) → refusal_number r ≢ 0
+numbered Arguments z = omega arith
+numbered Memory z = omega arith
+numbered PixelSize z = omega arith
+numbered Control z = omega arith
+numbered Pitch z = omega arith
+numbered Window z = omega arith
+numbered Place z = omega arith
+numbered Start z = omega arith
+numbered End z = omega arith
+numbered FieldSize z = omega arith
+numbered CacheState z = omega arith
+numbered Form z = omega arith
+numbered Name z = omega arith
+numbered Value z = omega arith
+numbered Count z = omega arith
+numbered Point z = omega arith
+
+-- where nothing is refused the test is false, and the rest refuses nothing
+pass : (t : Bool) (r : Refused) (d : Result ⊤ Refused) → 10 ≤ refusal_number r → answer (cond t (Err r) d) ≡ 0
+    → (t ≡ false) × (answer d ≡ 0)
+pass true r d h e = absurd (omega arith)
+pass false r d h e = (refl, e)
 
 -- ---- the table
 module _ (words : ℕ) (s : Settings) (t : Tests) where
-  pub lowest-number : Number (lowest words s t)
+  pub lowest-number : Number (answer (lowest words s t))
   unfolding lowest
   lowest-number =
-      number (no_memory words) 10 _ (omega arith) (omega arith)
-      (number (bad_pixel_size s.psize) 11 _ (omega arith) (omega arith)
-      (number (bad_control s.control) 12 _ (omega arith) (omega arith)
-      (number t.pitch 13 _ (omega arith) (omega arith)
-      (number t.window 14 _ (omega arith) (omega arith)
-      (number t.place 15 _ (omega arith) (omega arith)
-      (number t.start 16 _ (omega arith) (omega arith)
-      (number t.end 17 0 (omega arith) (omega arith) (record { least = λ z. absurd (z refl); most = omega arith }))))))))
+      number (no_memory words) Memory _ (omega arith) (omega arith)
+      (number (bad_pixel_size s.psize) PixelSize _ (omega arith) (omega arith)
+      (number (bad_control s.control) Control _ (omega arith) (omega arith)
+      (number t.pitch Pitch _ (omega arith) (omega arith)
+      (number t.window Window _ (omega arith) (omega arith)
+      (number t.place Place _ (omega arith) (omega arith)
+      (number t.start Start _ (omega arith) (omega arith)
+      (number t.end End _ (omega arith) (omega arith) (record { least = λ z. absurd (z refl); most = omega arith }))))))))
 
   -- the call passes every test
   pub record Passes : Type 0 where
@@ -52,17 +77,17 @@ module _ (words : ℕ) (s : Settings) (t : Tests) where
     pub start : t.start ≡ false
     pub end : t.end ≡ false
 
-  pub passes : lowest words s t ≡ 0 → Passes
+  pub passes : answer (lowest words s t) ≡ 0 → Passes
   unfolding lowest
   passes e =
-      let p10 = pass (no_memory words) 10 _ (omega arith) e in
-      let p11 = pass (bad_pixel_size s.psize) 11 _ (omega arith) p10.1 in
-      let p12 = pass (bad_control s.control) 12 _ (omega arith) p11.1 in
-      let p13 = pass t.pitch 13 _ (omega arith) p12.1 in
-      let p14 = pass t.window 14 _ (omega arith) p13.1 in
-      let p15 = pass t.place 15 _ (omega arith) p14.1 in
-      let p16 = pass t.start 16 _ (omega arith) p15.1 in
-      let p17 = pass t.end 17 0 (omega arith) p16.1 in
+      let p10 = pass (no_memory words) Memory _ (omega arith) e in
+      let p11 = pass (bad_pixel_size s.psize) PixelSize _ (omega arith) p10.1 in
+      let p12 = pass (bad_control s.control) Control _ (omega arith) p11.1 in
+      let p13 = pass t.pitch Pitch _ (omega arith) p12.1 in
+      let p14 = pass t.window Window _ (omega arith) p13.1 in
+      let p15 = pass t.place Place _ (omega arith) p14.1 in
+      let p16 = pass t.start Start _ (omega arith) p15.1 in
+      let p17 = pass t.end End _ (omega arith) p16.1 in
       record {
         memory = p10.0;
         size = p11.0;

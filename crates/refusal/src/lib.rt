@@ -4,6 +4,7 @@
 ghost use Rattle.std.specs.Prelude.{◌≡◌};
 ghost use Rattle.refusal.specs.Refusal.{refusal_table, lowest, bad_window_of};
 
+use answers::Refused;
 use settings::Settings;
 
 // What a call tests besides memory, PSIZE and CONTROL: each test is true where its number is given.
@@ -18,8 +19,8 @@ pub struct Tests {
     pub end: bool,
 }
 
-// The lowest number that applies, or 0.
-pub fn lowest(words: usize, s: Settings, t: Tests) -> u32
+// The refusal of the lowest number that applies, where one does.
+pub fn lowest(words: usize, s: Settings, t: Tests) -> Result<(), Refused>
     ensures { result ≡ lowest words s t }
 {
     let memory = memory::no_memory(words);
@@ -28,32 +29,35 @@ pub fn lowest(words: usize, s: Settings, t: Tests) -> u32
     refusal_table(memory, size, control, t)
 }
 
-// The lowest number whose test is true, or 0.
-fn refusal_table(memory: bool, size: bool, control: bool, t: Tests) -> u32
+// The refusal of the lowest number whose test is true, where one is.
+fn refusal_table(memory: bool, size: bool, control: bool, t: Tests) -> Result<(), Refused>
     ensures { result ≡ refusal_table memory size control t }
 {
     if memory {
-        return 10;
+        return Err(Refused::Memory);
     }
     if size {
-        return 11;
+        return Err(Refused::PixelSize);
     }
     if control {
-        return 12;
+        return Err(Refused::Control);
     }
     if t.pitch {
-        return 13;
+        return Err(Refused::Pitch);
     }
     if t.window {
-        return 14;
+        return Err(Refused::Window);
     }
     if t.place {
-        return 15;
+        return Err(Refused::Place);
     }
     if t.start {
-        return 16;
+        return Err(Refused::Start);
     }
-    if t.end { 17 } else { 0 }
+    if t.end {
+        return Err(Refused::End);
+    }
+    Ok(())
 }
 
 // Refusal 14, of a destination that is XY or not.

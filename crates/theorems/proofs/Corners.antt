@@ -11,7 +11,7 @@ lone-ignores s c same words a v = (
   ignore.linear-ignores s c same words a v,
   ignore.source-ignores s c same words a v,
   ignore.destination-ignores s c same words a v,
-  λ l source m. rw (same.pp, same.t),
+  ignore.lone_drawn-ignores s c same,
 )
 
 pub of-corners : OfCorners

@@ -8,6 +8,10 @@ use native.Mathlib.Omega.{arith}
 use borrow.Author.Tests.{ltb-true, lt-ltb}
 use lib.Dec.{eqb}
 use lib.ListN.{length}
+use Rattle.std.specs.Prelude.{Option, Some, None, Result, Ok, Err, ⊤}
+use Rattle.answers.specs.declared.Refused.{Refused}
+use Rattle.answers.specs.declared.Refused.TheVariants.{Memory, PixelSize, Control, Pitch, Window, Place, Start, End}
+use Rattle.answers.specs.Answer.{refusal_number, answer}
 use Rattle.memory.specs.Bits.{no_memory}
 use Rattle.control.specs.Control.{processing, bad_control, last_operation}
 use Rattle.pixel.specs.Pixel.{bad_pixel_size}
@@ -20,7 +24,9 @@ use Rattle.refusal.specs.Refusal.{lowest}
 use Rattle.array_refusal.specs.Refusal.{refusal_of, refusal}
 use Rattle.drawing.specs.declared.Outcome.{Outcome}
 use Rattle.drawing.specs.Draw.{outcome_at, outcome, drawn}
+use Rattle.lone.specs.declared.Lone.{Lone}
 use Rattle.lone.specs.Lone.{linear_pixel, xy_source, xy_destination}
+use Rattle.pixt.specs.Pixt.{pixel_drawn, lone_drawn}
 use Rattle.theorems.specs.Corners.{TwelveExactly}
 use Rattle.theorems.specs.Corners.{SameButCorner, with_control, handing}
 
@@ -75,32 +81,52 @@ module _ (s : Settings) (c : ℕ) (same : SameButCorner s.control c) (words a : 
   unfolding xy_destination lowest
   destination-ignores = rw (same.pp, same.w)
 
+-- the memory that it leaves
+module _ (s : Settings) (c : ℕ) (same : SameButCorner s.control c) where
+  pixel_drawn-ignores : (pixel : Option ℕ) (source : ℕ) (m : List ℕ)
+      → pixel_drawn (with_control s c) pixel source m ≡ pixel_drawn s pixel source m
+  pixel_drawn-ignores (Some a) source m = rw (same.pp, same.t)
+  pixel_drawn-ignores None source m = refl
+
+  pub lone_drawn-ignores : (at : Result Lone Refused) (source : ℕ) (m : List ℕ)
+      → lone_drawn (with_control s c) at source m ≡ lone_drawn s at source m
+  lone_drawn-ignores (Ok l) source m = pixel_drawn-ignores l.pixel source m
+  lone_drawn-ignores (Err r) source m = refl
+
 -- ---- 12
+abbrev Given : ℕ → Settings → Type 0
+Given words s = (no_memory words ≡ false) × (bad_pixel_size s.psize ≡ false) × (last_operation < processing s.control)
+
+abbrev accepted : Result ⊤ Refused
+accepted = Ok tt
+
 pub twelve-exactly : TwelveExactly
 unfolding lowest
 twelve-exactly words s t = (there, back)
   where
-    cases : (a b c : Bool) (r : ℕ) → r ≢ 12 → cond a 10 (cond b 11 (cond c 12 r)) ≡ 12 → (a ≡ false) × (b ≡ false) × (c ≡ true)
-    cases true b c r ne e = absurd (omega arith)
-    cases false true c r ne e = absurd (omega arith)
-    cases false false true r ne e = (refl, refl, refl)
-    cases false false false r ne e = absurd (ne e)
+    cases : (a b c : Bool) (d : Result ⊤ Refused) → answer d ≢ 12
+        → answer (cond a (Err Memory) (cond b (Err PixelSize) (cond c (Err Control) d))) ≡ 12 → (a ≡ false) × (b ≡ false) × (c ≡ true)
+    cases true b c d ne e = absurd (omega arith)
+    cases false true c d ne e = absurd (omega arith)
+    cases false false true d ne e = (refl, refl, refl)
+    cases false false false d ne e = absurd (ne e)
 
-    other : (b : Bool) (n r : ℕ) → n ≢ 12 → r ≢ 12 → cond b n r ≢ 12
-    other true n r h k = h
-    other false n r h k = k
+    other : (b : Bool) (r : Refused) (d : Result ⊤ Refused) → refusal_number r ≢ 12 → answer d ≢ 12 → answer (cond b (Err r) d) ≢ 12
+    other true r d h k = h
+    other false r d h k = k
 
-    rest : ◌≢◌ {A = ℕ} (cond t.pitch 13 (cond t.window 14 (cond t.place 15 (cond t.start 16 (cond t.end 17 0))))) 12
+    rest : ◌≢◌ {A = ℕ} (answer (cond t.pitch (Err Pitch) (cond t.window (Err Window) (cond t.place (Err Place) (cond t.start (Err Start)
+        (cond t.end (Err End) accepted)))))) 12
     rest =
-        other t.pitch 13 _ (λ z. omega arith)
-        (other t.window 14 _ (λ z. omega arith)
-        (other t.place 15 _ (λ z. omega arith)
-        (other t.start 16 _ (λ z. omega arith) (other t.end 17 0 (λ z. omega arith) (λ z. omega arith)))))
+        other t.pitch Pitch _ (λ z. omega arith)
+        (other t.window Window _ (λ z. omega arith)
+        (other t.place Place _ (λ z. omega arith)
+        (other t.start Start _ (λ z. omega arith) (other t.end End accepted (λ z. omega arith) (λ z. omega arith)))))
 
-    there : lowest words s t ≡ 12 → (no_memory words ≡ false) × (bad_pixel_size s.psize ≡ false) × (last_operation < processing s.control)
+    there : answer (lowest words s t) ≡ 12 → Given words s
     there e =
         let p = cases (no_memory words) (bad_pixel_size s.psize) (bad_control s.control) _ rest e in
         (p.0, p.1, ltb-true last_operation (processing s.control) p.2)
 
-    back : (no_memory words ≡ false) × (bad_pixel_size s.psize ≡ false) × (last_operation < processing s.control) → lowest words s t ≡ 12
+    back : Given words s → answer (lowest words s t) ≡ 12
     back (a, b, h) = rw (a, b, lt-ltb last_operation (processing s.control) h)

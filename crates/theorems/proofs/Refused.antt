@@ -1,5 +1,7 @@
 -- The proofs of specs/Refused.antt. Assumes nothing.
+use mathlib.Core.Path.{refl}
 use mathlib.Core.Bool.{Bool, true, false, cond}
+use Rattle.std.specs.Prelude.{Ok, Err}
 use Prim.Native.Nat.{◌+◌, ◌≤◌}
 use native.Mathlib.Omega.{arith}
 use borrow.Author.Tests.{eq-eqb, ne_eqb}
@@ -7,8 +9,6 @@ use lib.Dec.{eqb}
 use Rattle.field.proofs.RoundLaws as field
 use Rattle.image.specs.Image.{imaged}
 use Rattle.cache.specs.Cache.{fetched}
-use Rattle.pixt.specs.Pixt.{pixt_to, pixt_from}
-use Rattle.drav.specs.Drav.{drav_of}
 use Rattle.plot.specs.Drawing.{pixels}
 use Rattle.arrays.specs.Array.{drawing_for}
 use Rattle.drawing.specs.Draw.{outcome_at, visited_by, outcome, drawn}
@@ -36,12 +36,12 @@ draw-numbers op s place v budget words h =
     rw (outcome-refused op s place v budget words h) (n.least h, n.most)
 
 pub pixt-refused : PixtRefused
-unfolding pixt_to pixt_from
-pixt-refused s v l source m h = let e = ne_eqb _ _ h in (rw e, rw e, rw e)
+pixt-refused s v (Ok l) source m h = absurd (h refl)
+pixt-refused s v (Err r) source m h = ((refl, refl), (refl, refl), refl)
 
 pub drav-refused : DravRefused
-unfolding drav_of
-drav-refused s v point step l h = rw (ne_eqb _ _ h)
+drav-refused s v point step (Ok l) h = absurd (h refl)
+drav-refused s v point step (Err r) h = (refl, refl)
 
 pub write-refused : WriteRefused
 write-refused = field.written-refused

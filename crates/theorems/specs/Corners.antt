@@ -2,6 +2,9 @@
 -- and row: Arrays.antt, PixelPlaces. A copy over itself: Copies.antt. The proofs are in
 -- proofs/Corners.antt. Assumes nothing.
 use Rattle.std.specs.Prelude.{◌≡◌, Bool, true, false, List, ◌↔◌, ℕ, suc, ◌+◌, ◌-◌, ◌*◌, ◌%◌, ◌^◌, ◌<◌}
+use Rattle.std.specs.Prelude.{Result}
+use Rattle.answers.specs.declared.Refused.{Refused}
+use Rattle.answers.specs.Answer.{answer}
 use Rattle.memory.specs.Bits.{no_memory}
 use Rattle.control.specs.Control.{transparency, windowing, right_to_left, bottom_to_top}
 use Rattle.control.specs.Control.{processing, last_operation}
@@ -156,8 +159,8 @@ LoneIgnores =
     → (linear_pixel words (with_control s c) a v ≡ linear_pixel words s a v)
     × (xy_source words (with_control s c) a v ≡ xy_source words s a v)
     × (xy_destination words (with_control s c) a v ≡ xy_destination words s a v)
-    × ((l : Lone) (source : ℕ) (m : List ℕ)
-    → lone_drawn (with_control s c) l source m ≡ lone_drawn s l source m)
+    × ((at : Result Lone Refused) (source : ℕ) (m : List ℕ)
+    → lone_drawn (with_control s c) at source m ≡ lone_drawn s at source m)
 
 -- ---- the refusal
 
@@ -166,7 +169,7 @@ LoneIgnores =
 abbrev pub TwelveExactly : Type 0
 TwelveExactly =
     (words : ℕ) (s : Settings) (t : Tests)
-    → (lowest words s t ≡ 12)
+    → (answer (lowest words s t) ≡ 12)
     ↔ ((no_memory words ≡ false) × (bad_pixel_size s.psize ≡ false)
     × (last_operation < processing s.control))
 

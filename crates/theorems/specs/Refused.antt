@@ -1,7 +1,9 @@
 -- Demand 1 of the calls by name: a refused call returns its number and changes no word of memory,
 -- no register and no setting. (Each promise settles this already; here it is said of the
 -- definitions that the promises cite.) The proofs are in proofs/Refused.antt. Assumes nothing.
-use Rattle.std.specs.Prelude.{◌≡◌, Bool, true, false, Ok, List, ℕ, ◌≤◌, length}
+use Rattle.std.specs.Prelude.{◌≡◌, Bool, true, false, Ok, List, ℕ, ◌≤◌, length, Result}
+use Rattle.answers.specs.declared.Refused as answers
+use Rattle.answers.specs.Answer.{answer}
 use Rattle.memory.specs.Bits.{no_memory}
 use Rattle.field.specs.Field as field
 use Rattle.image.specs.Image.{imaged}
@@ -10,7 +12,8 @@ use Rattle.cache.specs.declared.Cache.{Cache}
 use Rattle.cache.specs.declared.Kind.TheVariants.{Refused}
 use Rattle.settings.specs.declared.Settings.{Settings}
 use Rattle.lone.specs.declared.Lone.{Lone}
-use Rattle.pixt.specs.Pixt.{lone_drawn, pixt_to, pixt_from}
+use Rattle.pixt.specs.declared.PixelResult.{PixelResult}
+use Rattle.pixt.specs.Pixt.{pixel_left, lone_drawn, pixt_to, pixt_from}
 use Rattle.drav.specs.Drav.{drav_of}
 use Rattle.operation.specs.declared.Operation.{Operation}
 use Rattle.array_refusal.specs.Refusal.{refusal}
@@ -53,29 +56,32 @@ DrawNumbers =
     × ((outcome op s place v budget words).answer ≤ 17)
 
 -- PIXT, with the lone pixel's refusal: register to memory, and memory to register,
--- which never changes memory.
+-- which never changes memory. The call answers the pixel's number, and leaves V and settings as
+-- given, nothing visited, no request and zero for the register.
 abbrev pub PixtRefused : Type 0
 PixtRefused =
-    (s : Settings) (v : Bool) (l : Lone) (source : ℕ) (m : List ℕ) → (l.answer ≡ 0 → ⊥)
-    → (pixt_to s v l
-    ≡ record { answer = l.answer; visited = 0; v = v; request = false; value = 0; settings = s })
-    × (pixt_from s v l m
-    ≡ record { answer = l.answer; visited = 0; v = v; request = false; value = 0; settings = s })
-    × (lone_drawn s l source m ≡ m)
+    (s : Settings) (v : Bool) (at : Result Lone answers.Refused) (source : ℕ) (m : List ℕ)
+    → (answer at ≡ 0 → ⊥)
+    → let left : PixelResult =
+    record { visited = 0; v = v; request = false; register = 0; settings = s } in
+    ((answer (pixt_to s at) ≡ answer at) × (pixel_left s v 0 (pixt_to s at) ≡ left))
+    × ((answer (pixt_from s at m) ≡ answer at) × (pixel_left s v 0 (pixt_from s at m) ≡ left))
+    × (lone_drawn s at source m ≡ m)
 
 -- DRAV: the point comes back as given too.
 abbrev pub DravRefused : Type 0
 DravRefused =
-    (s : Settings) (v : Bool) (point step : ℕ) (l : Lone) → (l.answer ≡ 0 → ⊥)
-    → drav_of s v point step l
+    (s : Settings) (v : Bool) (point step : ℕ) (at : Result Lone answers.Refused)
+    → (answer at ≡ 0 → ⊥)
+    → (answer (drav_of s point step at) ≡ answer at)
+    × (pixel_left s v point (drav_of s point step at)
     ≡ record {
-      answer = l.answer;
       visited = 0;
       v = v;
       request = false;
-      point = point;
+      register = point;
       settings = s;
-    }
+    })
 
 -- A field write, an image and a fetch.
 abbrev pub WriteRefused : Type 0

@@ -1,15 +1,8 @@
 -- `pixt_to_xy` meets its contract. Assumes nothing.
-use mathlib.Core.Path.{ap, ◌∙◌}
-use Rattle.pixt.specs.Pixt.{pixt_to}
-use lib.ListN.{length}
-use Rattle.pixt.proofs.LoneLaws.{xy_destination-aligned, drawn-register}
+use mathlib.Core.Path.{sym, ◌∙◌}
+use Rattle.pixt.proofs.LoneLaws.{xy_destination-aligned}
 use Rattle.pixt.proofs.pixt_to_xy.Goals as goal
 
-pub returns : goal.returns
-returns c =
-    let a = c.args in
-    let m = a.memory.now in (
-      c.done_to.ensures ∙ ap (pixt_to a.s a.v) c.xy_destination-l.ensures,
-      drawn-register a.s a.value m c.xy_destination-l.ensures (xy_destination-aligned (length m) a.s a.xy a.v)
-          c.at_place.ensures c.draw.ensures,
-    )
+pub draw_register-requires : goal.draw_register-requires
+draw_register-requires c =
+    xy_destination-aligned _ _ _ _ _ (sym c.xy_destination.ensures ∙ c.in_ok-l.was)
