@@ -7,4 +7,5 @@ use Rattle.put_bytes.proofs.copy.Goals as goal
 pub returns : goal.returns
 returns c =
     let from = c.args.from.now in
-    put_mid-paste _ _ _ _ from (length from) c.copy_from_slice.ensures.after (omega arith) refl ∙ sym (put-paste c.args.at from c.args.out.now)
+    put_mid-paste _ _ _ _ from (length from) c.copy_from_slice.ensures.after (omega arith) refl
+    ∙ sym (put-paste c.args.at from c.args.out.now)
