@@ -5,7 +5,7 @@
 ghost use Rattle.std.specs.Prelude.{◌≡◌, ◌≤◌, length, drop};
 ghost use Rattle.text.specs.Text.{same};
 ghost use Rattle.tabs.specs.Fields.{third_at};
-ghost use Rattle.run.specs.Run.{bit, ran_for, line_of};
+ghost use Rattle.run.specs.Run.{ran_for, line_of};
 ghost use Rattle.run.specs.Lines.{longest};
 ghost use Rattle.beginning.specs.Beginning.{with_changed, changed_in, ended, could_be};
 
@@ -48,22 +48,13 @@ fn ran_with(values: &[u64], draw: u64, words: usize, changed: u64) -> Ran
     }
 }
 
-fn bit(v: bool) -> u64
-    ensures { result ≡ bit v }
-{
-    if v { 1 } else { 0 }
-}
-
 // Is a line, with a line end behind it, that of a point which gives this?
 fn is_line(line: &[u8], point: u64, ran: Ran) -> bool
     requires { length (line_of point ran) ≤ longest }
     ensures { result ≡ same (ended line.now) (line_of point ran) }
 {
-    let answer = ran.answer as u64;
-    let v = bit(ran.v);
-    let numbers = [point, answer, ran.visited, v, ran.changed, ran.states];
     let mut text = [0u8; run::LINE];
-    let end = put_lines::numbers(&mut text, 0, &numbers) - 1;
+    let end = put_lines::numbers(&mut text, 0, &ran.numbers(point)) - 1;
     line == &text[..end]
 }
 
@@ -88,7 +79,7 @@ pub fn could_be(table: &[u64], axes: u64, draw: u64, words: usize, point: u64, l
         return false;
     }
     let mut values = [0u64; names::COUNT];
-    if decoding::experiment(table, axes, point, &mut values) != 0 {
+    if decoding::experiment(table, axes, point, &mut values).is_err() {
         return false;
     }
     like(&values, draw, words, point, line)

@@ -4,7 +4,7 @@ use Rattle.std.specs.Prelude.{◌≡◌, Bool, cond, ◌||◌, List, [], ◌∷�
 use Rattle.plan.specs.declared.Plan.{Plan}
 use Rattle.plan.specs.Table.{room, plan_of, table_after}
 use Rattle.listing.specs.Listing.{put}
-use Rattle.run.specs.Lines.{bad_shape, listed_of, written, image_after, memory_after}
+use Rattle.run.specs.Lines.{bad_shape, answer_of, written, image_after, memory_after}
 use Rattle.c_arrays.specs.Out.{short, answered, stored_out}
 
 -- how many results of reading there are: BH_PLAN_RESULTS of the header
@@ -40,8 +40,8 @@ pub record LinesCall (table : List ℕ) (axes draw first count : ℕ) (image mem
     (answer : ℕ) (image' memory' out' bytes' : List ℕ) : Type 0 where
   pub answers :
       let call =
-      listed_of (length image) (length memory) (length out) draw axes table first count in
-      answer ≡ answered (bad_lines draw count image memory out bytes) call.answer
+      answer_of (length image) (length memory) (length out) draw axes table first count in
+      answer ≡ answered (bad_lines draw count image memory out bytes) call
   pub image-is :
       let after = image_after image (length memory) (length out) draw axes table first count in
       image' ≡ cond (bad_lines draw count image memory out bytes) image after
@@ -52,6 +52,5 @@ pub record LinesCall (table : List ℕ) (axes draw first count : ℕ) (image mem
       let text = written (length image) (length memory) (length out) draw axes table first count in
       out' ≡ cond (bad_lines draw count image memory out bytes) out (put 0 text out)
   pub bytes-is :
-      let call =
-      listed_of (length image) (length memory) (length out) draw axes table first count in
-      bytes' ≡ stored_out (bad_lines draw count image memory out bytes) bytes (call.length ∷ [])
+      let text = written (length image) (length memory) (length out) draw axes table first count in
+      bytes' ≡ stored_out (bad_lines draw count image memory out bytes) bytes (length text ∷ [])

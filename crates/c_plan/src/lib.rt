@@ -58,10 +58,11 @@ pub fn lines(
     if bytes.len() < 1 {
         return BAD_CALL;
     }
-    let r = running::lines(table, axes, draw, first, count, image, memory, out);
-    if r.answer == BAD_CALL {
+    let listed = running::lines(table, axes, draw, first, count, image, memory, out);
+    let answer = answers::answer(&listed);
+    if answer == BAD_CALL {
         return BAD_CALL;
     }
-    bytes[0] = r.length as u64;
-    r.answer
+    bytes[0] = listed.unwrap_or(0) as u64;
+    answer
 }

@@ -20,7 +20,7 @@ pub extern "C" fn bh_experiment(table: &[u64], axes: u64, point: u64, out: &mut 
     ensures { let t = table.now in let o = out.old in
         (result ≡ answer_for axes t point o) × (out.new ≡ out_after axes t point o) }
 {
-    decoding::experiment(table, axes, point, out)
+    answers::answer(&decoding::experiment(table, axes, point, out))
 }
 
 // Runs points of a plan from a first one on; out has their lines of the listing, and bytes[0] is

@@ -17,15 +17,16 @@ use Rattle.settings.specs.Settings.{settings_of}
 use Rattle.listing.specs.Listing.{digits, most_digits, decimal, line_length}
 use Rattle.listing.proofs.ListingLaws.{digits-small, digits-large, line_length-le}
 use Rattle.columns.specs.Columns.{minus, signed_text, text_line, column_table, columns_of, columns_line, longest_columns}
-use Rattle.columns.specs.Held.{are_coordinates, held_texts, held_line}
+use Rattle.columns.specs.declared.Held.{Held}
+use Rattle.columns.specs.Held.{held_text, held_line}
 use Rattle.columns.proofs.TextLaws.{text_line-cons}
 
 -- what is held is the line
-pub held_line-is : (point : ℕ) (vs : List ℕ) (cs : List Bool) (ns : List ℕ) (s : Settings) (seed : ℕ) → cs ≡ are_coordinates
-    → held_texts are_coordinates ns ≡ map (λ c. c.text) (column_table point s seed) → s ≡ settings_of vs → seed ≡ get_or vs seed_at 0
-    → held_line cs ns ≡ columns_line point vs
+pub held_line-is : (point : ℕ) (vs : List ℕ) (cs : List Held) (s : Settings) (seed : ℕ)
+    → map held_text cs ≡ map (λ c. c.text) (column_table point s seed) → s ≡ settings_of vs → seed ≡ get_or vs seed_at 0
+    → held_line cs ≡ columns_line point vs
 unfolding columns_line
-held_line-is point vs cs ns s seed e n f g = rw (e, n, f, g)
+held_line-is point vs cs s seed n f g = rw (n, f, g)
 
 -- How many digits a number has
 

@@ -1,27 +1,14 @@
--- The columns as they are held: each as a number, which is a coordinate or not. Assumes nothing.
-use Rattle.std.specs.Prelude.{Bool, true, false, cond, List, [], ◌∷◌, ◌++◌, ℕ, replicate}
+-- A column as it is held: a number, or a coordinate with 2^15 added. Assumes nothing.
+use Rattle.std.specs.Prelude.{List, map, ℕ}
 use Rattle.listing.specs.Listing.{decimal}
+use Rattle.columns.specs.declared.Held.{Held}
+use Rattle.columns.specs.declared.Held.TheVariants.{Number, Coordinate}
 use Rattle.columns.specs.Columns.{signed_text, text_line}
 
--- which of them are coordinates, in the order of the table
-abbrev pub are_coordinates : List Bool
-are_coordinates =
-    replicate 2 false
-    ++ replicate 2 true
-    ++ replicate 2 false
-    ++ replicate 2 true
-    ++ replicate 2 false
-    ++ replicate 4 true
-    ++ replicate 13 false
+-- its text, and the line of some
+abbrev pub held_text : Held → List ℕ
+held_text (Number n) = decimal n
+held_text (Coordinate c) = signed_text c
 
--- the text of a number, the texts of all, and their line
-abbrev pub held_text : Bool → ℕ → List ℕ
-held_text coordinate n = cond coordinate (signed_text n) (decimal n)
-
-unfoldable pub held_texts : List Bool → List ℕ → List (List ℕ)
-held_texts [] ns = []
-held_texts (c ∷ cs) [] = []
-held_texts (c ∷ cs) (n ∷ ns) = held_text c n ∷ held_texts cs ns
-
-abbrev pub held_line : List Bool → List ℕ → List ℕ
-held_line cs ns = text_line (held_texts cs ns)
+abbrev pub held_line : List Held → List ℕ
+held_line cs = text_line (map held_text cs)

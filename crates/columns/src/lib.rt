@@ -3,15 +3,12 @@
 // index given where it does not fit, and then nothing is written.
 #![tactic(auto)]
 
-ghost use Rattle.std.specs.Prelude.{◌≡◌, cond, [], ◌∷◌, ◌++◌, map, ◌+◌, ◌≤◌, length, get_or};
-ghost use Rattle.control.specs.Control.{transparency, windowing, right_to_left, bottom_to_top};
-ghost use Rattle.control.specs.Control.{processing, disabled};
+ghost use Rattle.std.specs.Prelude.{◌≡◌, cond, [], ◌∷◌, ◌++◌, map, ◌+◌, ◌≤◌, length};
 ghost use Rattle.address.specs.Coordinate.{x_of, y_of};
-ghost use Rattle.names.specs.Names.{seed_at};
 ghost use Rattle.listing.specs.Listing.{put, put_if, index_after};
 ghost use Rattle.columns.specs.Columns.{columns_heading, columns_line};
 ghost use Rattle.columns.specs.Columns.{column_table, column_count};
-ghost use Rattle.columns.specs.Held.{are_coordinates, held_text, held_texts, held_line};
+ghost use Rattle.columns.specs.Held.{held_text, held_line};
 
 use settings::Settings;
 
@@ -28,7 +25,7 @@ pub const LINE: usize = 212;
 const HALF: u32 = 65536;
 
 // The coordinate 0, as it is held.
-const ZERO: u64 = 32768;
+const ZERO: u16 = 32768;
 
 // The heading: the names of the columns.
 pub fn put_heading(out: &mut [u8], at: usize) -> usize
@@ -47,164 +44,126 @@ pub fn put(out: &mut [u8], at: usize, point: u64, values: &[u64]) -> usize
     ensures out_after { out.new
         ≡ put_if at (columns_line point values.now) out.old }
 {
-    let s = settings::settings_of(values);
-    let ns = numbers(point, s, seed_of(values));
-    let coordinates = coordinates();
+    let columns = columns_of(point, values);
     let mut text = [0u8; LINE];
-    let end = line(&mut text, &ns, &coordinates);
+    let end = line(&mut text, &columns);
     put_bytes::bytes(out, at, &text[..end])
 }
 
 // Puts the line of the columns at the start of a text with room for it.
-fn line(text: &mut [u8], ns: &[u64], coordinates: &[bool]) -> usize
-    requires ns_len { (length ns.now ≡ column_count) × (length coordinates.now ≡ column_count) }
-    requires ns_in_bounds { length (held_line coordinates.now ns.now) ≤ length text.old }
-    ensures value { result ≡ length (held_line coordinates.now ns.now) }
-    ensures text_after { text.new
-        ≡ put 0 (held_line coordinates.now ns.now) text.old }
+fn line(text: &mut [u8], columns: &[Held]) -> usize
+    requires columns_len { length columns.now ≡ column_count }
+    requires room { length (held_line columns.now) ≤ length text.old }
+    ensures value { result ≡ length (held_line columns.now) }
+    ensures text_after { text.new ≡ put 0 (held_line columns.now) text.old }
 {
+    let last = COLUMNS - 1;
     let mut to = 0;
-    let mut i = 0;
-    while i < COLUMNS - 1 {
-        to = column(text, to, coordinates[i], ns[i], ascii::TAB);
-        i += 1;
+    for c in &columns[..last] {
+        to = column(text, to, *c, ascii::TAB);
     }
-    column(text, to, coordinates[i], ns[i], ascii::LINE_END)
+    column(text, to, columns[last], ascii::LINE_END)
 }
 
 // Puts the text of a column that fits, and the byte `end`.
-fn column(out: &mut [u8], at: usize, coordinate: bool, n: u64, end: u8) -> usize
-    requires { at + length (held_text coordinate n ++ (end ∷ [])) ≤ length out.old }
-    ensures value { result ≡ at + length (held_text coordinate n ++ (end ∷ [])) }
-    ensures out_after { out.new ≡ put at (held_text coordinate n ++ (end ∷ [])) out.old }
+fn column(out: &mut [u8], at: usize, c: Held, end: u8) -> usize
+    requires { at + length (held_text c ++ (end ∷ [])) ≤ length out.old }
+    ensures value { result ≡ at + length (held_text c ++ (end ∷ [])) }
+    ensures out_after { out.new ≡ put at (held_text c ++ (end ∷ [])) out.old }
 {
-    if !coordinate {
-        return put_bytes::number(out, at, n, end);
+    match c {
+        Held::Number(n) => put_bytes::number(out, at, n, end),
+        Held::Coordinate(c) => {
+            if c < ZERO {
+                let next = put_bytes::bytes(out, at, b"-");
+                return put_bytes::number(out, next, u64::from(ZERO - c), end);
+            }
+            put_bytes::number(out, at, u64::from(c - ZERO), end)
+        }
     }
-    if n < ZERO {
-        let next = put_bytes::bytes(out, at, b"-");
-        return put_bytes::number(out, next, ZERO - n, end);
-    }
-    put_bytes::number(out, at, n - ZERO, end)
 }
 
 // ---- what the columns hold
 
-// Which columns are coordinates.
-fn coordinates() -> [bool; COLUMNS]
-    ensures { result ≡ are_coordinates }
-{
-    let mut c = [false; COLUMNS];
-    c[2] = true;
-    c[3] = true;
-    c[6] = true;
-    c[7] = true;
-    c[10] = true;
-    c[11] = true;
-    c[12] = true;
-    c[13] = true;
-    c
+// A column as it is held: a number, or a coordinate with 2^15 added.
+#[derive(Clone, Copy)]
+enum Held {
+    Number(u64),
+    Coordinate(u16),
 }
 
-// The number of each column: a coordinate is held with 2^15 added.
-fn numbers(point: u64, s: Settings, seed: u64) -> [u64; COLUMNS]
-    ensures { held_texts are_coordinates result ≡ map (λ c. c.text) (column_table point s seed) }
+// The columns of a point with these values of the fourteen names.
+fn columns_of(point: u64, values: &[u64]) -> [Held; COLUMNS]
+    ensures { held_line result ≡ columns_line point values.now }
 {
-    let source = xy_of(s.saddr);
-    let dest = xy_of(s.daddr);
-    let first = xy_of(s.wstart);
-    let last = xy_of(s.wend);
-    let control = parts_of(s.control);
+    let s = settings::settings_of(values);
+    let seed = values.get(names::SEED).copied().unwrap_or(0);
+    in_order(point, s, seed)
+}
+
+// The columns of a point, its settings and its SEED, in the order of the table.
+fn in_order(point: u64, s: Settings, seed: u64) -> [Held; COLUMNS]
+    ensures { map held_text result ≡ map (λ c. c.text) (column_table point s seed) }
+{
     [
-        point,
-        s.saddr as u64,
-        source.x,
-        source.y,
-        s.sptch as u64,
-        s.daddr as u64,
-        dest.x,
-        dest.y,
-        s.dptch as u64,
-        s.offset as u64,
-        first.x,
-        first.y,
-        last.x,
-        last.y,
-        (s.dydx % HALF) as u64,
-        (s.dydx / HALF) as u64,
-        s.color0 as u64,
-        s.color1 as u64,
-        control.pp,
-        control.t,
-        control.w,
-        control.pbh,
-        control.pbv,
-        control.cd,
-        s.psize as u64,
-        s.pmask as u64,
-        seed,
+        Held::Number(point),
+        word(s.saddr),
+        x(s.saddr),
+        y(s.saddr),
+        word(s.sptch),
+        word(s.daddr),
+        x(s.daddr),
+        y(s.daddr),
+        word(s.dptch),
+        word(s.offset),
+        x(s.wstart),
+        y(s.wstart),
+        x(s.wend),
+        y(s.wend),
+        word(s.dydx % HALF),
+        word(s.dydx / HALF),
+        word(s.color0),
+        word(s.color1),
+        half(control::processing(s.control)),
+        bit(control::transparency(s.control)),
+        half(control::windowing(s.control)),
+        bit(control::right_to_left(s.control)),
+        bit(control::bottom_to_top(s.control)),
+        bit(control::disabled(s.control)),
+        half(s.psize),
+        half(s.pmask),
+        Held::Number(seed),
     ]
 }
 
-// SEED; 0 where it is past the end.
-fn seed_of(values: &[u64]) -> u64
-    ensures { result ≡ get_or values.now seed_at 0 }
+// The columns of a number with 32 bits, with 16 bits, and with one.
+fn word(n: u32) -> Held
+    ensures { result ≡ Held.Number n }
 {
-    if names::SEED < values.len() {
-        values[names::SEED]
-    } else {
-        0
-    }
+    Held::Number(u64::from(n))
 }
 
-// A register's coordinates, as they are held.
-#[derive(Clone, Copy)]
-struct XY {
-    x: u64,
-    y: u64,
-}
-
-fn xy_of(register: u32) -> XY
-    ensures { (result.x ≡ x_of register) × (result.y ≡ y_of register) }
+fn half(n: u16) -> Held
+    ensures { result ≡ Held.Number n }
 {
-    XY {
-        x: address::x_of(register) as u64,
-        y: address::y_of(register) as u64,
-    }
+    Held::Number(u64::from(n))
 }
 
-// The parts of CONTROL.
-#[derive(Clone, Copy)]
-struct Parts {
-    pp: u64,
-    t: u64,
-    w: u64,
-    pbh: u64,
-    pbv: u64,
-    cd: u64,
-}
-
-fn parts_of(control: u16) -> Parts
-    ensures { (result.pp ≡ processing control)
-        × (result.t ≡ cond (transparency control) 1 0)
-        × (result.w ≡ windowing control)
-        × (result.pbh ≡ cond (right_to_left control) 1 0)
-        × (result.pbv ≡ cond (bottom_to_top control) 1 0)
-        × (result.cd ≡ cond (disabled control) 1 0) }
+fn bit(b: bool) -> Held
+    ensures { result ≡ Held.Number (cond b 1 0) }
 {
-    Parts {
-        pp: control::processing(control) as u64,
-        t: bit(control::transparency(control)),
-        w: control::windowing(control) as u64,
-        pbh: bit(control::right_to_left(control)),
-        pbv: bit(control::bottom_to_top(control)),
-        cd: bit(control::disabled(control)),
-    }
+    Held::Number(u64::from(b))
 }
 
-// A bit as a number.
-fn bit(b: bool) -> u64
-    ensures { result ≡ cond b 1 0 }
+// The columns of a register's coordinates.
+fn x(register: u32) -> Held
+    ensures { result ≡ Held.Coordinate (x_of register) }
 {
-    if b { 1 } else { 0 }
+    Held::Coordinate(address::x_of(register))
+}
+
+fn y(register: u32) -> Held
+    ensures { result ≡ Held.Coordinate (y_of register) }
+{
+    Held::Coordinate(address::y_of(register))
 }

@@ -14,11 +14,9 @@ use points::{AXES, VALUES};
 fn too_large(name: u64, values: &[u64]) -> bool
     ensures { result ≡ any (leb (limit name)) values.now }
 {
-    let mut all = 0u64;
-    let mut i = 0;
-    while i < values.len() {
-        all |= values[i];
-        i += 1;
+    let mut all = 0;
+    for v in values {
+        all |= *v;
     }
     names::greatest(name) < all
 }
@@ -49,15 +47,13 @@ pub fn points(table: &[u64], axes: u64) -> u64
     }
     let mut count: u64 = 1;
     let mut at = 0;
-    let mut i: u64 = 0;
-    while i < axes {
+    for i in 0..axes {
         let rest = &table[at..];
         if !holds_axis(rest) {
             return 0;
         }
         count *= entry::length(rest);
         at += entry::end(rest);
-        i += 1;
     }
     count
 }

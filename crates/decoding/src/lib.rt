@@ -3,10 +3,13 @@
 #![tactic(auto)]
 
 ghost use Rattle.std.specs.Prelude.{◌≡◌, true, ◌+◌, ◌<◌, ◌≤◌, length};
+ghost use Rattle.answers.specs.Answer.{answer};
 ghost use Rattle.names.specs.Names.{name_count};
 ghost use Rattle.points.specs.Axes.{count};
 ghost use Rattle.points.specs.Points.{indices, assigned};
 ghost use Rattle.points.specs.Table.{value_in, axes_in, holds, with_defaults, answer_for, out_after};
+
+use answers::Refused;
 
 // Gives each axis's name the value at its index: the first index is the number divided by the count
 // of the later axes, the rest of the number is decoded over these. `total` is the count of all the
@@ -50,28 +53,24 @@ fn set_defaults(out: &mut [u64])
     requires { name_count ≤ length out.old }
     ensures { out.new ≡ with_defaults out.old }
 {
-    let mut i = 0;
-    while i < names::COUNT {
-        out[i] = 0;
-        i += 1;
-    }
+    out[..names::COUNT].fill(0);
     out[names::PSIZE] = names::PSIZE_DEFAULT;
 }
 
-// The fourteen values of a point. Answers 0, or 24 where the number is not below the count, or 9
-// where out has fewer than fourteen elements; with 24 and 9 out stays as lent.
-pub fn experiment(table: &[u64], axes: u64, number: u64, out: &mut [u64]) -> u32
+// The fourteen values of a point. Refused are a list with fewer than fourteen elements (Arguments),
+// and a number that is not below the count (Point); the list then stays as lent.
+pub fn experiment(table: &[u64], axes: u64, number: u64, out: &mut [u64]) -> Result<(), Refused>
     ensures { let t = table.now in let o = out.old in
-        (result ≡ answer_for axes t number o) × (out.new ≡ out_after axes t number o) }
+        (answer result ≡ answer_for axes t number o) × (out.new ≡ out_after axes t number o) }
 {
     if out.len() < names::COUNT {
-        return 9;
+        return Err(Refused::Arguments);
     }
     let count = counting::points(table, axes);
     if number >= count {
-        return 24;
+        return Err(Refused::Point);
     }
     set_defaults(out);
     decode(table, axes, count, number, out);
-    0
+    Ok(())
 }

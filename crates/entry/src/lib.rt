@@ -9,23 +9,12 @@ ghost use Rattle.points.specs.Table.{length_in, size_in};
 pub fn length(table: &[u64]) -> u64
     ensures { result ≡ length_in table.now }
 {
-    if table.len() < 2 {
-        return 0;
-    }
-    table[1]
+    table.get(1).copied().unwrap_or(0)
 }
 
 // Where its numbers end, which is the table's own end at most.
 pub fn end(table: &[u64]) -> usize
     ensures { result ≡ min (size_in table.now) (length table.now) }
 {
-    let size = table.len();
-    let length = length(table);
-    if size < 2 {
-        return size;
-    }
-    if ((size - 2) as u64) < length {
-        return size;
-    }
-    2 + length as usize
+    length(table).saturating_add(2).min(table.len() as u64) as usize
 }

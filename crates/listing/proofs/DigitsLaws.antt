@@ -1,11 +1,13 @@
 -- The kit's decimal digits, of which there are as few as can be, are those of `specs/Listing.antt`. No contract cites this file.
 -- Assumes nothing.
-use mathlib.Core.Path.{◌≡◌, refl, ap, ◌∙◌}
-use Prim.Native.Nat.{ℕ, zero, suc, ◌-◌, ◌/◌, ◌%◌, ◌^◌, ◌≤◌, ◌<◌}
+use mathlib.Core.Path.{◌≡◌, refl, sym, ap, ◌∙◌}
+use Prim.Native.Nat.{ℕ, zero, suc, ◌+◌, ◌*◌, ◌-◌, ◌/◌, ◌%◌, ◌^◌, ◌≤◌, ◌<◌}
 use native.Mathlib.Nat.{pow-suc, mod-eq_of_lt}
+use native.Mathlib.Numerals.{add-one}
 use native.Mathlib.Omega.{arith}
 use borrow.Author.Tests.{lt-ltb}
 use lib.ListN.{length, length-append}
+use Rattle.std.specs.Prelude.{Option, None, Some, IfNone, IfSome, unwrap_or}
 use Rattle.io.specs.Digits.{IsDigitCount}
 use Rattle.io.specs.Digits.{last_digits as io·digits}
 use Rattle.listing.specs.Listing.{digits, most_digits, decimal}
@@ -54,3 +56,10 @@ decimal-of-fewest r n h f = digits-fewest most_digits r n (fewest-le-most r n h 
 
 pub length-of-fewest : (r n : ℕ) → n < 2 ^ 64 → IsDigitCount 10 1 n r → length (decimal n) ≡ r
 length-of-fewest r n h f = ap length (decimal-of-fewest r n h f) ∙ length-io r n
+
+-- one more than the logarithm, where there is one
+pub length-of-log : (n : ℕ) (o : Option ℕ) → n < 2 ^ 64 → IfNone o (n ≡ 0) → IfSome o (λ k. 10 ^ k ≤ n) → IfSome o (λ k. n < 10 * 10 ^ k)
+    → unwrap_or o 0 + 1 ≡ length (decimal n)
+length-of-log n None h z low high = sym (length-of-fewest 1 n h (omega arith, omega arith, λ l. absurd (omega arith)))
+length-of-log n (Some k) h z low high =
+    sym (length-of-fewest (k + 1) n h (omega arith, rw (add-one, pow-suc 10 k) (omega arith), λ l. rw (add-one, pow-pred k) low))

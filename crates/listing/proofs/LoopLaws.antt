@@ -1,5 +1,5 @@
 -- What the loops keep: steps over plain variables. No contract cites this file. Assumes nothing.
-use mathlib.Core.Path.{◌≡◌, refl, sym, ap, ◌∙◌}
+use mathlib.Core.Path.{◌≡◌, ap, ◌∙◌}
 use mathlib.Core.Bool.{true, false}
 use mathlib.Core.List.{List, [], ◌∷◌, ◌++◌}
 use Prim.Native.Nat.{ℕ, suc, ◌+◌, ◌-◌, ◌≤◌, ◌<◌}
@@ -7,23 +7,12 @@ use native.Mathlib.Numerals.{add-one}
 use native.Mathlib.Omega.{arith}
 use borrow.Author.Tests.{le-leb, lt-leb}
 use lib.Dec.{leb}
-use lib.ListN.{length, get_or, drop, set, drop_of_length-le, length-append, length-drop}
-use lib.Seq.{drop-cons, paste, paste-suc}
+use lib.ListN.{length, get_or, drop, drop_of_length-le, length-append, length-drop}
+use lib.Seq.{drop-cons}
 use Rattle.ascii.specs.Ascii.{tab, line_end}
 use Rattle.listing.specs.Listing.{decimal, numbers_line, line_length, put}
-use Rattle.listing.proofs.ListingLaws.{numbers_line-cons, put-paste, length-put, put-put}
+use Rattle.listing.proofs.ListingLaws.{numbers_line-cons, length-put, put-put}
 use Rattle.listing.proofs.PlacedLaws.{leb-eq, Placed, fitted}
-
--- Copying
-
-pub copy_step : (d s o : List ℕ) (at i : ℕ) → at + length s ≤ length d → i < length s → o ≡ paste d at s i
-    → set o (at + i) (get_or s i 0) ≡ paste d at s (i + 1)
-copy_step d s o at i h l e = rw (e, add-one) (paste-suc d at s i 0 (omega arith) l)
-
-pub copy_done : (d s o : List ℕ) (at i : ℕ) → i ≤ length s → length s ≤ i → o ≡ paste d at s i → o ≡ put at s d
-copy_done d s o at i h l e =
-    let n : i ≡ length s = omega arith in
-    e ∙ rw n (sym (put-paste at s d))
 
 -- Whether a line fits
 

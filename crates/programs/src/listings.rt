@@ -149,14 +149,16 @@ fn run_some(
     requires { count ≤ most_points }
 {
     let mut space = [0u8; LINE * BATCH as usize];
-    let r = running::lines(
+    let listed = running::lines(
         table, p.axes, p.draw, first, count, image, memory, &mut space,
     );
-    if r.answer != 0 {
-        return output::not_listed(rt, first, r.answer as u64);
+    match listed {
+        Ok(length) => {
+            let n = output::within(length, &space);
+            output::lines(rt, to, &space[..n])
+        }
+        Err(r) => output::not_listed(rt, first, u64::from(u32::from(r))),
     }
-    let n = output::within(r.length, &space);
-    output::lines(rt, to, &space[..n])
 }
 
 // Puts the line of a point, which is run, and gives its length: 0 where there is none.
@@ -169,7 +171,7 @@ pub fn own_line(
     memory: &mut [u16],
 ) -> usize {
     let words = words_of(p, image, memory);
-    let r = running::lines(
+    let listed = running::lines(
         table,
         p.axes,
         p.draw,
@@ -179,7 +181,7 @@ pub fn own_line(
         &mut memory[0..words],
         out,
     );
-    r.length
+    listed.unwrap_or(0)
 }
 
 pub fn least(a: u64, b: u64) -> u64

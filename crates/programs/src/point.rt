@@ -75,7 +75,7 @@ fn no_point(rt: &HostRuntime, point: u64, count: u64) -> Status {
 // Runs the point, and writes all that is told of it.
 fn tell(rt: &HostRuntime, p: Plan, table: &[u64], point: u64) -> Status {
     let mut v = [0u64; names::COUNT];
-    decoding::experiment(table, p.axes, point, &mut v);
+    let _ = decoding::experiment(table, p.axes, point, &mut v);
     let s = settings::settings_of(&v);
     let op = operation::operation_of(p.draw);
     let mut out = [0u8; SPACE];

@@ -113,7 +113,7 @@ fn write_some(
 // point or no room.
 pub fn put(form: Form, axes: u64, table: &[u64], point: u64, out: &mut [u8], at: usize) -> usize {
     let mut v = [0u64; names::COUNT];
-    if decoding::experiment(table, axes, point, &mut v) != 0 {
+    if decoding::experiment(table, axes, point, &mut v).is_err() {
         return at;
     }
     match form {

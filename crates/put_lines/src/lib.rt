@@ -13,7 +13,7 @@ pub fn numbers(out: &mut [u8], at: usize, ns: &[u64]) -> usize
     ensures value { result ≡ index_after at (numbers_line ns.now) (length out.old) }
     ensures out_after { out.new ≡ put_if at (numbers_line ns.now) out.old }
 {
-    if ns.len() == 0 {
+    if ns.is_empty() {
         return put_bytes::bytes(out, at, b"\n");
     }
     if line_fits(out.len(), at, ns) {
@@ -30,12 +30,10 @@ fn line(out: &mut [u8], at: usize, ns: &[u64]) -> usize
 {
     let last = ns.len() - 1;
     let mut to = at;
-    let mut i = 0;
-    while i < last {
-        to = put_bytes::number(out, to, ns[i], ascii::TAB);
-        i += 1;
+    for n in &ns[..last] {
+        to = put_bytes::number(out, to, *n, ascii::TAB);
     }
-    put_bytes::number(out, to, ns[i], ascii::LINE_END)
+    put_bytes::number(out, to, ns[last], ascii::LINE_END)
 }
 
 // Does a line of one number or more fit at the index? Where there is room for NUMBER bytes each, no
@@ -58,14 +56,12 @@ fn line_within(ns: &[u64], room: usize) -> bool
     ensures { result ≡ leb (line_length ns.now) room }
 {
     let mut left = room;
-    let mut i = 0;
-    while i < ns.len() {
-        let k = places(ns[i]);
+    for n in ns {
+        let k = places(*n);
         if left <= k {
             return false;
         }
         left = left - k - 1;
-        i += 1;
     }
     true
 }
@@ -74,6 +70,5 @@ fn line_within(ns: &[u64], room: usize) -> bool
 fn places(n: u64) -> usize
     ensures { result ≡ length (decimal n) }
 {
-    let mut text = [0u8; put_bytes::DIGITS];
-    io::decimal(n, &mut text)
+    n.checked_ilog10().unwrap_or(0) as usize + 1
 }

@@ -1,12 +1,11 @@
 -- The loop of a run of points: what holds at its start, what a turn keeps, and what follows at the end. Assumes nothing.
-use mathlib.Core.Path.{◌≡◌, refl, sym, ap, ◌∙◌}
-use mathlib.Core.Bool.{false, true, true≢false}
+use mathlib.Core.Path.{◌≡◌, refl, ap, ◌∙◌}
+use Rattle.std.specs.Prelude.{None, Some}
 use mathlib.Core.List.{List}
 use Prim.Native.Nat.{ℕ, ◌+◌, ◌*◌, ◌<◌, ◌≤◌}
 use native.Mathlib.Nat.{zero-add}
 use native.Mathlib.Numerals.{add-one}
 use native.Mathlib.Omega.{arith}
-use borrow.Author.Tests.{le-leb}
 use lib.ListN.{length, length-append}
 use Rattle.image.specs.Image.{image}
 use Rattle.image.proofs.ImageLaws.{length-image}
@@ -15,7 +14,7 @@ use Rattle.operation.specs.declared.Operation.{Operation}
 use Rattle.drawing.specs.Draw.{unlimited, drawn}
 use Rattle.points.specs.Axes.{Axis}
 use Rattle.points.specs.Points.{experiment}
-use Rattle.listing.specs.Listing.{put, put_if, index_after}
+use Rattle.listing.specs.Listing.{put}
 use Rattle.listing.proofs.ListingLaws.{put-put, length-put}
 use Rattle.running.specs.declared.Progress.{Progress}
 use Rattle.run.specs.declared.Ran.{Ran}
@@ -42,7 +41,7 @@ module _ (words draw : ℕ) (axes : List Axis) (point : ℕ) (p : Progress) {s :
 
   pub point-run : (out : List ℕ) {m' out' : List ℕ} {at : ℕ} → m' ≡ drawn op s 0 unlimited m → at ≡ p.at + length (line_of point ran)
       → out' ≡ put p.at (line_of point ran) out
-      → (record { made = true; seed = seed; at = at } ≡ progressed words draw axes point p)
+      → (record { seed = Some seed; at = at } ≡ progressed words draw axes point p)
       × ((m ≡ image_for words (experiment axes point))
       × ((m' ≡ memory_for words draw (experiment axes point)) × (out' ≡ put p.at (point_line words draw axes point) out)))
   point-run out ew ea eu = (
@@ -58,7 +57,7 @@ module _ (draw : ℕ) (axes : List Axis) (first k : ℕ) (image₀ memory₀ out
   -- i of them are run
   pub record RunTo (p : Progress) (image memory out : List ℕ) (i : ℕ) : Type 0 where
     pub few : i ≤ k
-    pub held : HoldsImage p.made p.seed image
+    pub held : HoldsImage p.seed image
     pub image_size : length image ≡ length image₀
     pub memory_size : length memory ≡ length memory₀
     pub out_size : length out ≡ length out₀
@@ -67,12 +66,12 @@ module _ (draw : ℕ) (axes : List Axis) (first k : ℕ) (image₀ memory₀ out
     pub at : p.at ≡ length (lines i)
     pub out_is : out ≡ put 0 (lines i) out₀
 
-  pub start : RunTo (record { made = false; seed = 0; at = 0 }) image₀ memory₀ out₀ 0
+  pub start : RunTo (record { seed = None; at = 0 }) image₀ memory₀ out₀ 0
   unfolding after_last point_lines put
   start =
       record {
         few = omega arith;
-        held = λ e. absurd (true≢false (sym e));
+        held = tt;
         image_size = refl;
         memory_size = refl;
         out_size = refl;
@@ -102,11 +101,11 @@ module _ (draw : ℕ) (axes : List Axis) (first k : ℕ) (image₀ memory₀ out
         let w = h.image_size in
         let n = point_lines-next (length image₀) draw axes first i in
         let size : length image' ≡ length image = ap length ei ∙ length-image (length image) (seed_of vs) in
-        let seed : r.seed ≡ seed_of vs = ap (λ (q : Progress). q.seed) er in
+        let seed : r.seed ≡ Some (seed_of vs) = ap (λ (q : Progress). q.seed) er in
         let at' : r.at ≡ p.at + length (point_line (length image) draw axes (first + i)) = ap (λ (q : Progress). q.at) er in
         record {
           few = omega arith;
-          held = λ e. ei ∙ rw (size, seed);
+          held = rw (seed, size) (ei);
           image_size = size ∙ w;
           memory_size = l ∙ h.memory_size;
           out_size =

@@ -9,33 +9,22 @@ ghost use Rattle.drawing.specs.Draw.{unlimited, drawn};
 ghost use Rattle.points.specs.Points.{experiment};
 ghost use Rattle.points.specs.Table.{axes_in, points_in};
 ghost use Rattle.listing.specs.Listing.{put};
-ghost use Rattle.run.specs.Run.{seed_of, ran_over, bit, line_of, image_for, memory_for, point_line};
+ghost use Rattle.run.specs.Run.{seed_of, ran_over, line_of, image_for, memory_for, point_line};
 ghost use Rattle.run.specs.Lines.{point_lines, longest, after_last, ends_past, listed_of, written};
 ghost use Rattle.run.specs.Lines.{image_after, memory_after};
 ghost use Rattle.running.specs.Progress.{HoldsImage, progressed};
 
+use answers::Refused;
 use operation::Operation;
-use run::{Listed, Ran};
+use run::Ran;
 use settings::Settings;
 
-// Copies a memory over another of its size.
-fn copy(from: &[u16], to: &mut [u16])
-    requires { length from.now ≡ length to.old }
-    ensures { to.new ≡ from.now }
-{
-    let mut i = 0;
-    while i < to.len() {
-        to[i] = from[i];
-        i += 1;
-    }
-}
-
 // The image of a seed, made where the memory does not hold it already.
-fn prepare(memory: &mut [u16], seed: u64, made: bool, held: u64)
-    requires { (no_memory (length memory.old) ≡ false) × HoldsImage made held memory.old }
+fn prepare(memory: &mut [u16], seed: u64, held: Option<u64>)
+    requires { (no_memory (length memory.old) ≡ false) × HoldsImage held memory.old }
     ensures { memory.new ≡ image (length memory.old) seed }
 {
-    if made & (seed == held) {
+    if held == Some(seed) {
         return;
     }
     image::fill_image(memory, seed);
@@ -48,7 +37,7 @@ fn run_over(image: &[u16], memory: &mut [u16], op: Operation, s: Settings) -> Ra
     ensures { (result ≡ ran_over op s image.now)
         × (memory.new ≡ drawn op s 0 unlimited image.now) }
 {
-    copy(image, memory);
+    memory.copy_from_slice(image);
     let o = drawing::draw(memory, op, s, 0, false, drawing::UNLIMITED);
     let c = memory::changed(image, memory);
     let time = fill_timing::fill_time(op, s, o.visited);
@@ -75,18 +64,13 @@ fn experiment_of(table: &[u64], axes: u64, point: u64) -> Experiment
     ensures seed_value { result.seed ≡ seed_of (experiment (axes_in axes table.now) point) }
 {
     let mut values = [0u64; names::COUNT];
-    decoding::experiment(table, axes, point, &mut values);
+    // The point is there, so that it is not refused.
+    let _ = decoding::experiment(table, axes, point, &mut values);
     let settings = settings::settings_of(&values);
     Experiment {
         settings,
         seed: values[names::SEED],
     }
-}
-
-fn bit(v: bool) -> u64
-    ensures { result ≡ bit v }
-{
-    if v { 1 } else { 0 }
 }
 
 // Puts the listing line of a point.
@@ -95,18 +79,14 @@ fn put_line(out: &mut [u8], at: usize, point: u64, ran: Ran) -> usize
     ensures value { result ≡ at + length (line_of point ran) }
     ensures out_after { out.new ≡ put at (line_of point ran) out.old }
 {
-    let answer = ran.answer as u64;
-    let v = bit(ran.v);
-    let line = [point, answer, ran.visited, v, ran.changed, ran.states];
-    put_lines::numbers(out, at, &line)
+    put_lines::numbers(out, at, &ran.numbers(point))
 }
 
-// What a run has done before a point: whether an image was made, its seed, and the bytes of
+// What a run has done before a point: the seed of the image, where one was made, and the bytes of
 // listing.
 #[derive(Clone, Copy)]
 struct Progress {
-    made: bool,
-    seed: u64,
+    seed: Option<u64>,
     at: usize,
 }
 
@@ -124,7 +104,7 @@ fn run_point(
     requires point_bound { point < points_in axes table.now }
     requires image_value { (no_memory (length image.old) ≡ false)
         × (length image.old ≡ length memory.old) }
-    requires holds_image { HoldsImage p.made p.seed image.old }
+    requires holds_image { HoldsImage p.seed image.old }
     requires longest_in_bounds { p.at + longest ≤ length out.old }
     ensures result_value { let n = length image.old in
         let held = axes_in axes table.now in
@@ -140,13 +120,12 @@ fn run_point(
         out.new ≡ put p.at (point_line n draw held point) out.old }
 {
     let e = experiment_of(table, axes, point);
-    prepare(image, e.seed, p.made, p.seed);
+    prepare(image, e.seed, p.seed);
     let op = operation::operation_of(draw);
     let ran = run_over(image, memory, op, e.settings);
     let at = put_line(out, p.at, point, ran);
     Progress {
-        made: true,
-        seed: e.seed,
+        seed: Some(e.seed),
         at,
     }
 }
@@ -180,24 +159,18 @@ fn run_points(
         let held = axes_in axes table.now in
         out.new ≡ put 0 (point_lines n draw held first count) out.old }
 {
-    let mut p = Progress {
-        made: false,
-        seed: 0,
-        at: 0,
-    };
-    let mut i = 0;
-    while i < count {
+    let mut p = Progress { seed: None, at: 0 };
+    for i in 0..count {
         p = run_point(table, axes, draw, first + i, p, image, memory, out);
-        i += 1;
     }
     p.at
 }
 
 // Runs `count` points of a plan from `first` on, and puts their listing lines at the start of out;
-// image and memory are left as the last point left them. With 9 (the memories are not of one size
-// up to 32,768 words, the drawing is above 7, or out has no room for lines of LINE bytes), 10 (they
-// are empty) and 24 (a point that is asked for is not below the plan's count) nothing changes. With
-// count 0 no point is asked for.
+// image and memory are left as the last point left them. Gives how many bytes the lines have. With
+// a refusal nothing changes: Arguments (the memories are not of one size up to 32,768 words, the
+// drawing is above 7, or out has no room for lines of LINE bytes), Memory (they are empty) or Point
+// (a point that is asked for is not below the plan's count). With count 0 no point is asked for.
 pub fn lines(
     table: &[u64],
     axes: u64,
@@ -207,7 +180,7 @@ pub fn lines(
     image: &mut [u16],
     memory: &mut [u16],
     out: &mut [u8],
-) -> Listed
+) -> Result<usize, Refused>
     ensures result_value { let i = image.old in let m = memory.old in
         let o = out.old in let t = table.now in
         result ≡ listed_of (length i) (length m) (length o) draw axes t first count }
@@ -223,23 +196,13 @@ pub fn lines(
         ≡ put 0 (written (length i) (length m) (length o) draw axes t first count) o }
 {
     if asked::bad_shape(image.len(), memory.len(), draw, count, out.len()) {
-        return Listed {
-            answer: 9,
-            length: 0,
-        };
+        return Err(Refused::Arguments);
     }
     if memory::no_memory(image.len()) {
-        return Listed {
-            answer: 10,
-            length: 0,
-        };
+        return Err(Refused::Memory);
     }
     if asked::ends_past(counting::points(table, axes), first, count) {
-        return Listed {
-            answer: 24,
-            length: 0,
-        };
+        return Err(Refused::Point);
     }
-    let length = run_points(table, axes, draw, first, count, image, memory, out);
-    Listed { answer: 0, length }
+    Ok(run_points(table, axes, draw, first, count, image, memory, out))
 }

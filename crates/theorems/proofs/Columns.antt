@@ -14,14 +14,12 @@ use Rattle.ascii.specs.Ascii.{tab, line_end, joined}
 use Rattle.control.specs.Control.{transparency, windowing, right_to_left, bottom_to_top, processing, disabled}
 use Rattle.address.specs.Coordinate.{x_of, y_of, negative, register_of}
 use Rattle.address.proofs.CoordinateLaws.{register_of-x_of-y_of}
-use Rattle.names.specs.Names.{seed_at, control_at, limit}
-use Rattle.settings.specs.declared.Settings.{Settings}
+use Rattle.names.specs.Names.{control_at, limit}
 use Rattle.settings.specs.Settings.{settings_of}
 use Rattle.text.specs.Text.{in_front, parts, lines_of, fields_of}
 use Rattle.listing.specs.Listing.{digits, decimal}
 use Rattle.listing.proofs.ListingLaws.{digits-small, digits-large}
 use Rattle.columns.specs.Columns.{minus, signed_text, text_line, column_names, columns_heading, columns_of, columns_line}
-use Rattle.columns.specs.Held.{are_coordinates, held_text, held_texts}
 use Rattle.columns.proofs.ColumnsLaws.{length-columns_line}
 use Rattle.theorems.specs.Columns.{ColumnsTellValues, LineOfColumns, ColumnsAsMany, ColumnsFit, OfColumns}
 use Rattle.theorems.proofs.Runs.{one-writing}
@@ -90,71 +88,80 @@ clear-signed m c h = go (negative c)
     go true = (ne_eqb minus m (λ e. omega arith), clear-decimal m (2 ^ 15 - c) (omega arith))
     go false = clear-decimal m (c - 2 ^ 15) (omega arith)
 
-clear-held : (m n : ℕ) (b : Bool) → m < minus → Clear m (held_text b n)
-clear-held m n true h = clear-signed m n h
-clear-held m n false h = clear-decimal m n (omega arith)
-
-clear-all : (m : ℕ) (cs : List Bool) (ns : List ℕ) → m < minus → AllClear m (held_texts cs ns)
-unfolding held_texts
-clear-all m [] ns h = tt
-clear-all m (c ∷ cs) [] h = tt
-clear-all m (c ∷ cs) (n ∷ ns) h = (clear-held m n c h, clear-all m cs ns h)
-
--- a line of them
-lines_of-held : (cs : List Bool) (ns : List ℕ) → lines_of (text_line (held_texts cs ns)) ≡ joined (held_texts cs ns) ∷ [] ∷ []
-lines_of-held cs ns = lines_of-text_line (held_texts cs ns) (clear-all line_end cs ns (omega arith))
-
-fields_of-held : (c : Bool) (cs : List Bool) (n : ℕ) (ns : List ℕ)
-    → fields_of (joined (held_texts (c ∷ cs) (n ∷ ns))) ≡ held_texts (c ∷ cs) (n ∷ ns)
-unfolding held_texts
-fields_of-held c cs n ns = fields_of-joined (held_text c n) (held_texts cs ns) (clear-all tab (c ∷ cs) (n ∷ ns) (omega arith))
+-- the texts of a point's columns: numbers and coordinates
+clear-columns : (m p : ℕ) (vs : List ℕ) → m < minus → AllClear m (columns_of p vs)
+clear-columns m p vs h =
+    let n : (k : ℕ) → Clear m (decimal k) = λ k. clear-decimal m k (omega arith) in
+    let s : (k : ℕ) → Clear m (signed_text k) = λ k. clear-signed m k h in (
+      n _,
+      (
+        n _,
+        (
+          s _,
+          (
+            s _,
+            (
+              n _,
+              (
+                n _,
+                (
+                  s _,
+                  (
+                    s _,
+                    (
+                      n _,
+                      (
+                        n _,
+                        (
+                          s _,
+                          (
+                            s _,
+                            (
+                              s _,
+                              (
+                                s _,
+                                (
+                                  n _,
+                                  (
+                                    n _,
+                                    (
+                                      n _,
+                                      (
+                                        n _,
+                                        (
+                                          n _,
+                                          (
+                                            n _,
+                                            (n _, (n _, (n _, (n _, (n _, (n _, (n _, tt))))))),
+                                          ),
+                                        ),
+                                      ),
+                                    ),
+                                  ),
+                                ),
+                              ),
+                            ),
+                          ),
+                        ),
+                      ),
+                    ),
+                  ),
+                ),
+              ),
+            ),
+          ),
+        ),
+      ),
+    )
 
 -- ---- As many fields
 
--- the number of each column, a coordinate with 2^15 added
-numbers_of : ℕ → Settings → ℕ → List ℕ
-numbers_of p s seed =
-    p
-    ∷ s.saddr
-    ∷ x_of s.saddr
-    ∷ y_of s.saddr
-    ∷ s.sptch
-    ∷ s.daddr
-    ∷ x_of s.daddr
-    ∷ y_of s.daddr
-    ∷ s.dptch
-    ∷ s.offset
-    ∷ x_of s.wstart
-    ∷ y_of s.wstart
-    ∷ x_of s.wend
-    ∷ y_of s.wend
-    ∷ (s.dydx % 2 ^ 16)
-    ∷ (s.dydx / 2 ^ 16)
-    ∷ s.color0
-    ∷ s.color1
-    ∷ processing s.control
-    ∷ cond (transparency s.control) 1 0
-    ∷ windowing s.control
-    ∷ cond (right_to_left s.control) 1 0
-    ∷ cond (bottom_to_top s.control) 1 0
-    ∷ cond (disabled s.control) 1 0
-    ∷ s.psize
-    ∷ s.pmask
-    ∷ seed
-    ∷ []
-
-columns_of-held : (p : ℕ) (vs : List ℕ) → held_texts are_coordinates (numbers_of p (settings_of vs) (get_or vs seed_at 0)) ≡ columns_of p vs
-unfolding held_texts numbers_of
-columns_of-held p vs = refl
-
 line-of-point : (p : ℕ) (vs : List ℕ) → LineOfColumns (columns_line p vs) (columns_of p vs)
-unfolding columns_line numbers_of
+unfolding columns_line
 line-of-point p vs =
-    let ns : List ℕ = numbers_of p (settings_of vs) (get_or vs seed_at 0) in
-    let e = columns_of-held p vs in
     record {
-      line = rw e at (lines_of-held are_coordinates ns);
-      cut = rw e at (fields_of-held false (drop 1 are_coordinates) p (drop 1 ns));
+      line = lines_of-text_line (columns_of p vs) (clear-columns line_end p vs (omega arith));
+      cut = fields_of-joined _ _ (clear-columns tab p vs (omega arith));
       count = refl;
     }
 

@@ -2,28 +2,20 @@
 use Rattle.columns.proofs.TextLaws.{placed-negative, placed-positive}
 use Rattle.columns.proofs.column.Goals as goal
 
-pub returns-then-n-lt-ZERO-clause-value : goal.returns-then-n-lt-ZERO-clause-value
-returns-then-n-lt-ZERO-clause-value c =
+pub returns-then-c-lt-ZERO : goal.returns-then-c-lt-ZERO
+returns-then-c-lt-ZERO c =
     let x = c.args in
-    (placed-negative x.at x.n x.end x.out.now x.coordinate
-    c.requires _ _ (c.if-not-coordinate.false) c.if-n-lt-ZERO.true _ _ (c.bytes-next.ensures.value, c.bytes-next.ensures.out_after)
-    (c.number-then-n-lt-ZERO.ensures.value, c.number-then-n-lt-ZERO.ensures.out_after)).0
+    let next = c.bytes-next.ensures in
+    let n = c.number-then-c-lt-ZERO.ensures in
+    let p = placed-negative x.at c.in-Coordinate.c x.end x.out.now (rw c.in-Coordinate.is at c.requires) _ _ c.if-c-lt-ZERO.true _ _
+    (next.value, next.out_after) (rw c.from.ensures at n.value, rw c.from.ensures at n.out_after) in
+    rw c.in-Coordinate.is record { value = p.0; out_after = p.1 }
 
-pub returns-then-n-lt-ZERO-clause-out_after : goal.returns-then-n-lt-ZERO-clause-out_after
-returns-then-n-lt-ZERO-clause-out_after c =
+pub returns-else-c-lt-ZERO : goal.returns-else-c-lt-ZERO
+returns-else-c-lt-ZERO c =
     let x = c.args in
-    (placed-negative x.at x.n x.end x.out.now x.coordinate
-    c.requires _ _ (c.if-not-coordinate.false) c.if-n-lt-ZERO.true _ _ (c.bytes-next.ensures.value, c.bytes-next.ensures.out_after)
-    (c.number-then-n-lt-ZERO.ensures.value, c.number-then-n-lt-ZERO.ensures.out_after)).1
-
-pub returns-clause-value : goal.returns-clause-value
-returns-clause-value c =
-    let x = c.args in
-    (placed-positive x.at x.n x.end x.out.now x.coordinate
-    c.requires _ _ (c.if-not-coordinate.false) c.if-n-lt-ZERO.false (c.number-2.ensures.value, c.number-2.ensures.out_after)).0
-
-pub returns-clause-out_after : goal.returns-clause-out_after
-returns-clause-out_after c =
-    let x = c.args in
-    (placed-positive x.at x.n x.end x.out.now x.coordinate
-    c.requires _ _ (c.if-not-coordinate.false) c.if-n-lt-ZERO.false (c.number-2.ensures.value, c.number-2.ensures.out_after)).1
+    let n = c.number-in-Coordinate.ensures in
+    let e = c.from-in-Coordinate.ensures in
+    let p = placed-positive x.at c.in-Coordinate.c x.end x.out.now (rw c.in-Coordinate.is at c.requires) _ _ c.if-c-lt-ZERO.false
+    (rw e at n.value, rw e at n.out_after) in
+    rw c.in-Coordinate.is record { value = p.0; out_after = p.1 }

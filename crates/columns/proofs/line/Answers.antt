@@ -1,61 +1,53 @@
 -- `columns::line` meets its contract: each turn puts one column, and the last one ends the line. Assumes nothing.
-use mathlib.Core.Path.{◌≡◌, sym, ◌∙◌}
+use mathlib.Core.Path.{◌≡◌, sym}
+use mathlib.Core.List.{map}
+use Prim.Native.Nat.{◌<◌}
 use native.Mathlib.Omega.{arith}
-use lib.ListN.{length}
-use Rattle.columns.proofs.TextLaws.{texted-room, texted-room-last, texted-step, texted-end}
+use Rattle.std.proofs.lemmas.List.{length-map, length-take-le}
+use Rattle.columns.specs.Held.{held_text}
+use Rattle.columns.proofs.TextLaws.{text-before, text-at, texted-room, texted-room-last, texted-step, texted-end}
 use Rattle.columns.proofs.line.Goals as goal
 
--- as many flags as numbers
-alike-4 : (c : goal.After-shared_slice_known-in-loop-i-2-1) → length c.args.coordinates.now ≡ length c.args.ns.now
-alike-4 c =
-    c.requires.ns_len.1 ∙ sym c.requires.ns_len.0
+pub slice_bounds-c-items-end : goal.slice_bounds-c-items-end
+slice_bounds-c-items-end c =
+    sym (length-take-le 26 c.args.columns.now (omega arith))
 
--- as many flags as numbers
-alike-3 : (c : goal.After-slice_known-in-loop-i-1) → length c.args.coordinates.now ≡ length c.args.ns.now
-alike-3 c =
-    c.requires.ns_len.1 ∙ sym c.requires.ns_len.0
-
--- as many flags as numbers
-alike-2 : (c : goal.After-shared_slice_known-4-1) → length c.args.coordinates.now ≡ length c.args.ns.now
-alike-2 c =
-    c.requires.ns_len.1 ∙ sym c.requires.ns_len.0
-
--- as many flags as numbers
-alike : (c : goal.After-slice_known-2-1) → length c.args.coordinates.now ≡ length c.args.ns.now
-alike c =
-    c.requires.ns_len.1 ∙ sym c.requires.ns_len.0
+pub offset_bounds-c-items-c-index : goal.offset_bounds-c-items-c-index
+offset_bounds-c-items-c-index c =
+    record { fits = omega (arith, length-take-le 26 c.args.columns.now (omega arith)) }
 
 pub column-to-requires : goal.column-to-requires
 column-to-requires c =
-    let x = c.args in
-    texted-room x.coordinates.now x.ns.now x.text.now (alike-4 c) c.requires.ns_in_bounds c.loop-i.i c.loop-i.to c.loop-i.text
-    c.loop-i.invariant.1 (omega (arith, c.loop-i-test.true, c.requires.ns_len))
+    let cs = c.args.columns.now in
+    let below : c.loop-c.c-index < 26 = omega (arith, length-take-le 26 cs (omega arith)) in
+    let n = length-map cs held_text in
+    texted-room (map held_text cs) c.args.text.now c.requires.room _ _ _ c.loop-c.invariant _
+    (text-before cs 26 _ below (omega arith)) (omega arith)
 
-pub loop-i-preserved : goal.loop-i-preserved
-loop-i-preserved c =
-    let x = c.args in (
-      omega (arith, c.loop-i-test.true),
-      texted-step x.coordinates.now x.ns.now x.text.now (alike-3 c) c.requires.ns_in_bounds c.loop-i.i c.loop-i.to c.loop-i.text
-          c.loop-i.invariant.1 _ _
-          (omega (arith, c.loop-i-test.true, c.requires.ns_len)) c.column-to.ensures.value c.column-to.ensures.out_after,
-    )
+pub loop-c-preserved : goal.loop-c-preserved
+loop-c-preserved c =
+    let cs = c.args.columns.now in
+    let below : c.loop-c.c-index < 26 = omega (arith, length-take-le 26 cs (omega arith)) in
+    let n = length-map cs held_text in
+    let p = c.column-to.ensures in
+    texted-step (map held_text cs) c.args.text.now c.requires.room _ _ _ c.loop-c.invariant _ (text-before cs 26 _ below (omega arith)) _ _
+    (omega arith) p.value p.out_after
 
 pub column-requires : goal.column-requires
 column-requires c =
-    let x = c.args in
-    texted-room-last x.coordinates.now x.ns.now x.text.now (alike-2 c) c.requires.ns_in_bounds c.loop-i.i c.loop-i.to c.loop-i.text
-    c.loop-i.invariant.1 (omega (arith, c.loop-i-test.false, c.loop-i.invariant.0, c.requires.ns_len))
+    let cs = c.args.columns.now in
+    let last : c.loop-c.c-index ≡ 26 = omega (arith, length-take-le 26 cs (omega arith)) in
+    let n = length-map cs held_text in
+    texted-room-last (map held_text cs) c.args.text.now c.requires.room _ _ _ c.loop-c.invariant _
+    (text-at cs 26 _ last (omega arith)) (omega arith)
 
-pub returns-clause-value : goal.returns-clause-value
-returns-clause-value c =
-    let x = c.args in
-    (texted-end x.coordinates.now x.ns.now x.text.now (alike c) c.requires.ns_in_bounds c.loop-i.i c.loop-i.to c.loop-i.text
-    c.loop-i.invariant.1 _ _ (omega (arith, c.loop-i-test.false, c.loop-i.invariant.0, c.requires.ns_len)) c.column.ensures.value
-    c.column.ensures.out_after).0
-
-pub returns-clause-text_after : goal.returns-clause-text_after
-returns-clause-text_after c =
-    let x = c.args in
-    (texted-end x.coordinates.now x.ns.now x.text.now (alike c) c.requires.ns_in_bounds c.loop-i.i c.loop-i.to c.loop-i.text
-    c.loop-i.invariant.1 _ _ (omega (arith, c.loop-i-test.false, c.loop-i.invariant.0, c.requires.ns_len)) c.column.ensures.value
-    c.column.ensures.out_after).1
+pub returns : goal.returns
+returns c =
+    let cs = c.args.columns.now in
+    let last : c.loop-c.c-index ≡ 26 = omega (arith, length-take-le 26 cs (omega arith)) in
+    let n = length-map cs held_text in
+    let p = c.column.ensures in
+    let d = texted-end (map held_text cs) c.args.text.now c.requires.room _ _ _ c.loop-c.invariant _
+        (text-at cs 26 _ last (omega arith)) _ _
+    (omega arith) p.value p.out_after in
+    record { value = d.0; text_after = d.1 }

@@ -1,5 +1,4 @@
 -- `decoding::decode` falls by the number of axes left. Assumes nothing.
-use Rattle.std.proofs.Common.{ℕ}
 use Rattle.decoding.proofs.+decode.Given as goal
 
 abbrev pub decreases-decode : goal.decreases-decode

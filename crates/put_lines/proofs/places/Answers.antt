@@ -1,8 +1,9 @@
--- `put_lines::places` meets its contract: the kit's count of digits is the length of the decimal number. Assumes nothing.
-use mathlib.Core.Path.{sym}
-use Rattle.listing.proofs.DigitsLaws.{length-of-fewest}
+-- `put_lines::places` meets its contract: one more than the logarithm is the length of the decimal number. Assumes nothing.
+use Rattle.listing.proofs.DigitsLaws.{length-of-log}
 use Rattle.put_lines.proofs.places.Goals as goal
 
 pub returns : goal.returns
 returns c =
-    sym (length-of-fewest c.decimal.result _ c.ranges.n.fits c.decimal.ensures.len)
+    let l = c.checked_ilog10.ensures in
+    let e = length-of-log c.args.n c.checked_ilog10.result c.ranges.n.fits l.none l.power_le l.next_power_gt in
+    rw c.unwrap_or.ensures e

@@ -1,5 +1,4 @@
 -- `running::run_points` meets its contract. Assumes nothing.
-use Prim.Native.Nat.{◌-◌}
 use native.Mathlib.Omega.{arith}
 use Rattle.points.specs.Table.{axes_in}
 use Rattle.running.proofs.ProgressLaws.{start, turn, line-room}
