@@ -1,6 +1,6 @@
 -- Each turn leaves less to fill.
 use Rattle.std.proofs.Common.{◌-◌, ◌≤◌, length}
-use Rattle.programs.proofs.version.read_full.Given as goal
+use Rattle.programs.proofs.input.read_full.Given as goal
 
 abbrev pub invariant-loop-done : goal.invariant-loop-done
 invariant-loop-done l = l.done ≤ length l.buffer
