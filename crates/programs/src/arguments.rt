@@ -1,175 +1,142 @@
 // The arguments of `sweep`.
-ghost use Rattle.std.specs.Prelude.{◌≤◌, length};
+ghost use Rattle.std.specs.Prelude.{◌<◌, ◌≤◌, length, IfOk};
 
-use crate::{output, shown, stream};
+use crate::form::Form;
+use crate::program::{LINE, PATH, Program};
+use crate::runner::PointRange;
+use crate::stop::Stop;
+use crate::writer::Writer;
 use std::env::{Env, FillError};
 
-// What is to be done: some lines written, the points counted, the points that standard input
-// names, a file gone on with; help and version; nothing, where the arguments are bad.
+// What the arguments ask for: help, the version, or something of the plan that an argument names.
 #[derive(Clone, Copy)]
-pub enum Task {
-    Part,
-    Points,
-    At,
-    Resume,
+pub enum Asked {
     Help,
     Version,
-    Bad,
+    Plan(usize, Task),
 }
 
-// What a line has: a point's results, its fourteen values, or these with packed numbers taken
-// apart.
+// What is to be done with a plan: the points counted; some lines written; those of the points that
+// standard input names; a file gone on with.
 #[derive(Clone, Copy)]
-pub enum Form {
-    Results,
-    Values,
-    Columns,
-}
-
-// What the arguments ask for, of `count` points from `first` on; and which argument names the plan.
-#[derive(Clone, Copy)]
-pub struct Asked {
-    pub task: Task,
-    pub form: Form,
-    pub plan: usize,
-    pub first: u64,
-    pub count: u64,
+pub enum Task {
+    Count,
+    List(Form, PointRange),
+    At(Form),
+    Resume(PointRange),
 }
 
 // The argument that names the file to go on with.
 pub const FILE: usize = 3;
 
 // The arguments; a line on standard error where they are bad.
-pub fn read(rt: &HostRuntime) -> Asked {
+pub fn read(sweep: Program<'_>) -> Result<Asked, Stop> {
+    let rt = sweep.rt;
     if is(rt, 1, b"--help") | is(rt, 1, b"-h") {
-        return wish(Task::Help, Form::Results, 0);
+        return Ok(Asked::Help);
     }
     if is(rt, 1, b"--version") {
-        return wish(Task::Version, Form::Results, 0);
+        return Ok(Asked::Version);
     }
     if is(rt, 1, b"--points") {
-        return whole(rt, wish(Task::Points, Form::Results, 2));
+        whole(sweep, 2)?;
+        return Ok(Asked::Plan(2, Task::Count));
     }
     if is(rt, 1, b"--at") {
-        return sample(rt);
+        return at(sweep);
     }
     if is(rt, 1, b"--resume") {
-        return part(rt, wish(Task::Resume, Form::Results, 2), 4);
+        return Ok(Asked::Plan(2, Task::Resume(range(sweep, 2, 4)?)));
     }
     if is(rt, 1, b"--experiments") {
-        return part(rt, wish(Task::Part, Form::Values, 2), 3);
+        return Ok(Asked::Plan(2, Task::List(Form::Values, range(sweep, 2, 3)?)));
     }
     if is(rt, 1, b"--fields") {
-        return part(rt, wish(Task::Part, Form::Columns, 2), 3);
+        return Ok(Asked::Plan(2, Task::List(Form::Columns, range(sweep, 2, 3)?)));
     }
-    part(rt, wish(Task::Part, Form::Results, 1), 2)
-}
-
-fn wish(task: Task, form: Form, plan: usize) -> Asked {
-    Asked {
-        task,
-        form,
-        plan,
-        first: 0,
-        count: u64::MAX,
-    }
+    Ok(Asked::Plan(1, Task::List(Form::Results, range(sweep, 1, 2)?)))
 }
 
 // --at [--experiments | --fields] PLAN.
-fn sample(rt: &HostRuntime) -> Asked {
-    if is(rt, 2, b"--experiments") {
-        return named(rt, whole(rt, wish(Task::At, Form::Values, 3)));
+fn at(sweep: Program<'_>) -> Result<Asked, Stop> {
+    if is(sweep.rt, 2, b"--experiments") {
+        return at_in(sweep, Form::Values, 3);
     }
-    if is(rt, 2, b"--fields") {
-        return named(rt, whole(rt, wish(Task::At, Form::Columns, 3)));
+    if is(sweep.rt, 2, b"--fields") {
+        return at_in(sweep, Form::Columns, 3);
     }
-    named(rt, whole(rt, wish(Task::At, Form::Results, 2)))
+    at_in(sweep, Form::Results, 2)
 }
 
 // The plan of --at is a file: standard input has the points.
-fn named(rt: &HostRuntime, a: Asked) -> Asked {
-    if is(rt, a.plan, b"-") {
-        return bad(
-            rt,
-            b"sweep: --at takes PLAN from a file, and points from standard input\n",
-        );
+fn at_in(sweep: Program<'_>, form: Form, plan: usize) -> Result<Asked, Stop> {
+    whole(sweep, plan)?;
+    if is(sweep.rt, plan, b"-") {
+        return Err(sweep.error(b"--at takes PLAN from a file, and points from standard input\n"));
     }
-    a
+    Ok(Asked::Plan(plan, Task::At(form)))
+}
+
+// How many arguments there are, where one names the plan.
+fn with_plan(sweep: Program<'_>, plan: usize) -> Result<usize, Stop>
+    ensures { IfOk result (λ n. plan < n) }
+{
+    let n = count(sweep.rt);
+    if n <= plan {
+        return Err(sweep.error(b"PLAN is missing (see sweep --help)\n"));
+    }
+    if is_option(sweep.rt, plan) {
+        return Err(unknown(sweep, plan));
+    }
+    Ok(n)
 }
 
 // The plan, and nothing behind it.
-fn whole(rt: &HostRuntime, a: Asked) -> Asked {
-    let n = count(rt);
-    if n <= a.plan {
-        return bad(rt, b"sweep: PLAN is missing (see sweep --help)\n");
+fn whole(sweep: Program<'_>, plan: usize) -> Result<(), Stop> {
+    match with_plan(sweep, plan)? - plan {
+        1 => Ok(()),
+        _ => Err(too_many(sweep)),
     }
-    if is_option(rt, a.plan) {
-        return unknown(rt, a.plan);
-    }
-    if n - a.plan != 1 {
-        return bad(rt, b"sweep: too many arguments (see sweep --help)\n");
-    }
-    a
 }
 
 // The plan, perhaps a file, and from argument `from` on nothing, or FIRST and COUNT.
-fn part(rt: &HostRuntime, a: Asked, from: usize) -> Asked {
-    let n = count(rt);
-    if n <= a.plan {
-        return bad(rt, b"sweep: PLAN is missing (see sweep --help)\n");
-    }
-    if is_option(rt, a.plan) {
-        return unknown(rt, a.plan);
-    }
+fn range(sweep: Program<'_>, plan: usize, from: usize) -> Result<PointRange, Stop> {
+    let n = with_plan(sweep, plan)?;
     if n < from {
-        return bad(rt, b"sweep: FILE is missing (see sweep --help)\n");
+        return Err(sweep.error(b"FILE is missing (see sweep --help)\n"));
     }
-    if n == from {
-        return a;
-    }
-    if n - from == 1 {
-        return bad(rt, b"sweep: COUNT is missing (see sweep --help)\n");
-    }
-    if n - from != 2 {
-        return bad(rt, b"sweep: too many arguments (see sweep --help)\n");
-    }
-    numbered(rt, a, from)
-}
-
-// With FIRST and COUNT from an argument on.
-fn numbered(rt: &HostRuntime, a: Asked, from: usize) -> Asked {
-    let task = a.task;
-    let form = a.form;
-    let Some(first) = number(rt, from) else {
-        return bad(rt, b"sweep: FIRST isn't a decimal number below 2^64\n");
-    };
-    let Some(count) = number_behind(rt, from) else {
-        return bad(rt, b"sweep: COUNT isn't a decimal number below 2^64\n");
-    };
-    Asked {
-        task,
-        form,
-        plan: a.plan,
-        first,
-        count,
+    match n - from {
+        0 => Ok(PointRange::ALL),
+        1 => Err(sweep.error(b"COUNT is missing (see sweep --help)\n")),
+        2 => numbered(sweep, from),
+        _ => Err(too_many(sweep)),
     }
 }
 
-fn bad(rt: &HostRuntime, line: &[u8]) -> Asked {
-    stream::complain(rt, line);
-    wish(Task::Bad, Form::Results, 0)
+// FIRST and COUNT, from an argument on.
+fn numbered(sweep: Program<'_>, from: usize) -> Result<PointRange, Stop> {
+    let Some(first) = number(sweep.rt, from) else {
+        return Err(sweep.error(b"FIRST isn't a decimal number below 2^64\n"));
+    };
+    let Some(count) = number(sweep.rt, from.saturating_add(1)) else {
+        return Err(sweep.error(b"COUNT isn't a decimal number below 2^64\n"));
+    };
+    Ok(PointRange { first, count })
+}
+
+fn too_many(sweep: Program<'_>) -> Stop {
+    sweep.error(b"too many arguments (see sweep --help)\n")
 }
 
 // A word that begins with - and is no option.
-fn unknown(rt: &HostRuntime, i: usize) -> Asked {
-    let mut space = [0u8; shown::PATH];
-    let length = fill(rt, i, &mut space);
-    let mut line = [0u8; shown::LINE];
-    let start = put_bytes::bytes(&mut line, 0, b"sweep: unknown option ");
-    let next = shown::put(&mut line, start, &space[..length]);
-    let end = put_bytes::bytes(&mut line, next, b" (see sweep --help)\n");
-    let n = output::within(end, &line);
-    bad(rt, &line[..n])
+fn unknown(sweep: Program<'_>, i: usize) -> Stop {
+    let mut argument = [0u8; PATH];
+    let length = fill(sweep.rt, i, &mut argument);
+    let mut space = [0u8; LINE];
+    let mut words = Writer::over(&mut space);
+    words.bytes(b"unknown option ").word(&argument[..length]);
+    words.bytes(b" (see sweep --help)\n");
+    sweep.error(words.text())
 }
 
 // Puts the argument at the buffer's start, and gives its length: 0 where there is none, and where
@@ -177,10 +144,7 @@ fn unknown(rt: &HostRuntime, i: usize) -> Asked {
 pub fn fill(rt: &HostRuntime, i: usize, buffer: &mut [u8]) -> usize
     ensures { result ≤ length buffer.new }
 {
-    match rt.arg(i, buffer) {
-        Ok(length) => length,
-        Err(_) => 0,
-    }
+    rt.arg(i, buffer).unwrap_or(0)
 }
 
 // How many arguments there are, the program's name among them.
@@ -195,28 +159,21 @@ pub fn count(rt: &HostRuntime) -> usize {
 
 // Is the argument this word?
 pub fn is(rt: &HostRuntime, i: usize, word: &[u8]) -> bool {
-    let mut space = [0u8; shown::PATH];
+    let mut space = [0u8; PATH];
     let length = fill(rt, i, &mut space);
     &space[..length] == word
 }
 
 // Does the argument begin with -, and is more than that?
 pub fn is_option(rt: &HostRuntime, i: usize) -> bool {
-    let mut space = [0u8; shown::PATH];
+    let mut space = [0u8; PATH];
     let length = fill(rt, i, &mut space);
-    (1 < length) & (space[0] == b'-')
+    matches!(&space[..length], [b'-', _, ..])
 }
 
-// The argument as a number, and the one behind it.
+// The argument as a number.
 pub fn number(rt: &HostRuntime, i: usize) -> Option<u64> {
-    let mut space = [0u8; shown::PATH];
+    let mut space = [0u8; PATH];
     let length = fill(rt, i, &mut space);
     text::parse(&space[..length])
-}
-
-fn number_behind(rt: &HostRuntime, i: usize) -> Option<u64> {
-    if i == usize::MAX {
-        return None;
-    }
-    number(rt, i + 1)
 }

@@ -1,50 +1,50 @@
-// The plan's text.
-ghost use Rattle.std.specs.Prelude.{◌≤◌, length};
+// The plan's text, and the plan.
+ghost use Rattle.std.specs.Prelude.{◌≤◌, length, IfOk};
 
+use crate::program::{PATH, Program};
+use crate::stop::Stop;
 use crate::stream::Stream;
-use crate::{arguments, failure, shown, stream};
+use crate::{arguments, reason, stream};
+use plan::{Plan, TEXT};
 use std::fs::File;
 use std::io;
 
-// How many bytes were read, and whether that went well.
-#[derive(Clone, Copy)]
-pub struct Got {
-    pub good: bool,
-    pub length: usize,
+// A byte more than a plan's text may have.
+const SPACE: usize = TEXT + 1;
+
+// Reads the plan that argument i names, with its axes into the table; a line on standard error
+// where that fails, or where the plan is refused.
+pub fn plan_of(program: Program<'_>, i: usize, table: &mut [u64]) -> Result<Plan, Stop> {
+    let mut space = [0u8; SPACE];
+    let n = read_argument(program, i, &mut space)?;
+    let text = &space[..n];
+    let p = plan::read(text, table);
+    if p.answer != 0 {
+        reason::tell(program.rt, i, text, p);
+        return Err(Stop::Refused(p));
+    }
+    Ok(p)
 }
 
-// Nothing that was read well.
-const FAILED: Got = Got {
-    good: false,
-    length: 0,
-};
-
-// Reads the plan that argument i names into the buffer, as much of it as fits; a line on standard
-// error, which begins with the program's name, where that fails.
-pub fn plan_text(rt: &HostRuntime, program: &[u8], i: usize, buffer: &mut [u8]) -> Got
-    ensures { result.length ≤ length buffer.new }
+// Reads what argument i names into the buffer, as much of it as fits, and gives how many bytes.
+fn read_argument(program: Program<'_>, i: usize, buffer: &mut [u8]) -> Result<usize, Stop>
+    ensures { IfOk result (λ n. n ≤ length buffer.new) }
 {
-    if arguments::is(rt, i, b"-") {
-        return read_text(rt, program, Stream::Standard, b"standard input", buffer);
+    if arguments::is(program.rt, i, b"-") {
+        return read_text(program, Stream::Standard, b"standard input", buffer);
     }
-    let mut space = [0u8; shown::PATH];
-    let length = arguments::fill(rt, i, &mut space);
+    let mut space = [0u8; PATH];
+    let length = arguments::fill(program.rt, i, &mut space);
     let path = &space[..length];
-    match opened(rt, path) {
-        Ok(file) => read_text(rt, program, Stream::File(&file), path, buffer),
-        Err(e) => {
-            failure::tell(rt, program, path, e);
-            FAILED
-        }
+    match opened(program.rt, path) {
+        Ok(file) => read_text(program, Stream::File(&file), path, buffer),
+        Err(e) => Err(program.failed(path, e)),
     }
 }
 
 // A file, open for reading.
 pub fn opened(rt: &HostRuntime, path: &[u8]) -> io::Result<File> {
-    match path_of(path) {
-        Ok(path) => File::open(rt, path),
-        Err(e) => Err(e),
-    }
+    File::open(rt, path_of(path)?)
 }
 
 // The error of a path that is no text in UTF-8: the system's calls take none.
@@ -52,40 +52,37 @@ const NO_TEXT: i32 = 84;
 
 // A path as text.
 pub fn path_of(path: &[u8]) -> io::Result<&str> {
-    match str::from_utf8(path) {
-        Ok(path) => Ok(path),
-        Err(_) => Err(io::Error::from_raw_os_error(NO_TEXT)),
-    }
+    str::from_utf8(path).map_err(|_| io::Error::from_raw_os_error(NO_TEXT))
 }
 
-// Reads until the buffer is full or the input ends.
+// Reads a text, as much of it as fits; a line on standard error where that fails.
 fn read_text(
-    rt: &HostRuntime,
-    program: &[u8],
+    program: Program<'_>,
     from: Stream<'_>,
     name: &[u8],
     buffer: &mut [u8],
-) -> Got
-    ensures { result.length ≤ length buffer.new }
+) -> Result<usize, Stop>
+    ensures { IfOk result (λ n. n ≤ length buffer.new) }
 {
-    let mut at = 0;
-    while at < buffer.len() {
-        match stream::read(rt, from, &mut buffer[at..]) {
-            Ok(0) => {
-                return Got {
-                    good: true,
-                    length: at,
-                };
-            }
-            Ok(n) => at += n,
-            Err(e) => {
-                failure::tell(rt, program, name, e);
-                return FAILED;
-            }
+    let (n, ended) = read_full(program.rt, from, buffer);
+    match ended {
+        Ok(()) => Ok(n),
+        Err(e) => Err(program.failed(name, e)),
+    }
+}
+
+// Reads until the buffer is full, the input ends or a read fails: how many bytes it put at the
+// buffer's start, and whether all went well.
+pub fn read_full(rt: &HostRuntime, from: Stream<'_>, buffer: &mut [u8]) -> (usize, io::Result<()>)
+    ensures { result.0 ≤ length buffer.new }
+{
+    let mut done = 0;
+    while done < buffer.len() {
+        match stream::read(rt, from, &mut buffer[done..]) {
+            Ok(0) => break,
+            Ok(n) => done += n,
+            Err(e) => return (done, Err(e)),
         }
     }
-    Got {
-        good: true,
-        length: at,
-    }
+    (done, Ok(()))
 }

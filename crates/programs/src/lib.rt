@@ -8,29 +8,33 @@ ghost use Rattle.std.specs.Prelude.{◌≤◌};
 mod arguments;
 mod descriptors;
 mod faces;
-mod failure;
+mod form;
 mod help;
 mod input;
 mod listings;
-mod output;
 mod point;
-mod point_values;
+mod program;
 mod progress;
 mod reader;
 mod reason;
 mod resume;
+mod runner;
 mod sample;
-mod shown;
+mod stop;
 mod stream;
 mod sweep;
 mod version;
+mod writer;
+
+use program::Program;
 
 // sweep: see help.rt.
 pub fn sweep_main(rt: &HostRuntime) -> u8
     ensures { result ≤ 2 }
 {
     descriptors::guard(rt);
-    sweep::swept(rt) as u8
+    let sweep = Program { rt, name: "sweep" };
+    stop::status(sweep::swept(sweep))
 }
 
 // point PLAN N: one point in full.
@@ -38,5 +42,6 @@ pub fn point_main(rt: &HostRuntime) -> u8
     ensures { result ≤ 2 }
 {
     descriptors::guard(rt);
-    point::told(rt) as u8
+    let point = Program { rt, name: "point" };
+    stop::status(point::told(point))
 }

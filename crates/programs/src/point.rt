@@ -1,9 +1,11 @@
 // point PLAN N: one point in full, for a reader: its values in decimal and hexadecimal and taken
 // apart, the answer in words, what the drawing leaves, and what the window leaves of the array.
-use crate::output::Status;
+use crate::program::Program;
+use crate::runner::{Points, Runner};
+use crate::stop::Stop;
 use crate::stream::Stream;
-use crate::{arguments, faces, input, listings, output, reason, stream, sweep, version};
-use drawing::Outcome;
+use crate::writer::Writer;
+use crate::{arguments, input, version};
 use operation::Operation;
 use plan::{Plan, ROOM};
 use settings::Settings;
@@ -12,122 +14,81 @@ use settings::Settings;
 const SPACE: usize = 8192;
 
 // Reads the arguments and the plan, and tells of the point.
-pub fn told(rt: &HostRuntime) -> Status {
+pub fn told(point: Program<'_>) -> Result<(), Stop> {
+    let rt = point.rt;
     if arguments::is(rt, 1, b"--help") | arguments::is(rt, 1, b"-h") {
-        return write(
-            rt,
+        return point.lines(
+            Stream::Standard,
             b"point PLAN N shows point N of a plan in full. PLAN is a file, or - for standard input.\nStatus: 0 done, 1 the plan is refused, 2 an error (one line on standard error).\n",
         );
     }
     if arguments::is(rt, 1, b"--version") {
-        return version::tell(rt, b"point: ");
+        return version::tell(point);
     }
     if arguments::count(rt) != 3 {
-        return error(rt, b"point: usage: point PLAN N (see point --help)\n");
+        return Err(point.error(b"usage: point PLAN N (see point --help)\n"));
     }
     if arguments::is_option(rt, 1) {
-        return error(rt, b"point: unknown option (see point --help)\n");
+        return Err(point.error(b"unknown option (see point --help)\n"));
     }
-    let Some(point) = arguments::number(rt, 2) else {
-        return error(rt, b"point: N isn't a decimal number below 2^64\n");
+    let Some(number) = arguments::number(rt, 2) else {
+        return Err(point.error(b"N isn't a decimal number below 2^64\n"));
     };
-    over_plan(rt, point)
+    over_plan(point, number)
 }
 
-fn error(rt: &HostRuntime, line: &[u8]) -> Status {
-    stream::complain(rt, line);
-    Status::Error
-}
-
-fn write(rt: &HostRuntime, bytes: &[u8]) -> Status {
-    output::lines_to(rt, b"point: ", b"standard output", Stream::Standard, bytes)
-}
-
-// Reads the plan.
-fn over_plan(rt: &HostRuntime, point: u64) -> Status {
-    let mut space = [0u8; sweep::SPACE];
-    let got = input::plan_text(rt, b"point: ", 1, &mut space);
-    if !got.good {
-        return Status::Error;
-    }
-    let n = output::within(got.length, &space);
-    let text = &space[..n];
+// Reads the plan, and tells of the point of this number.
+fn over_plan(point: Program<'_>, number: u64) -> Result<(), Stop> {
     let mut table = [0u64; ROOM];
-    let p = plan::read(text, &mut table);
-    if p.answer != 0 {
-        reason::tell(rt, 1, text, p);
-        return Status::Refused;
+    let plan = input::plan_of(point, 1, &mut table)?;
+    let points = Points {
+        plan,
+        table: &table,
+    };
+    match points.values(number) {
+        Some(values) => tell(point, points, number, values),
+        None => Err(point.no_point(number, plan.points)),
     }
-    if point < p.points {
-        return tell(rt, p, &table, point);
-    }
-    no_point(rt, point, p.points)
 }
 
-// A point that the plan does not have.
-fn no_point(rt: &HostRuntime, point: u64, count: u64) -> Status {
-    let _ = eprintln!(rt;
-        "point: refused, 24: point {point} isn't below the plan's count, {count}"
-    );
-    Status::Error
-}
-
-// Runs the point, and writes all that is told of it.
-fn tell(rt: &HostRuntime, p: Plan, table: &[u64], point: u64) -> Status {
-    let mut v = [0u64; names::COUNT];
-    let _ = decoding::experiment(table, p.axes, point, &mut v);
-    let s = settings::settings_of(&v);
-    let op = operation::operation_of(p.draw);
-    let mut out = [0u8; SPACE];
-    let headed = put_head(&mut out, p, point);
-    let valued = faces::put_values(&mut out, headed, &v);
-    let run = put_run(&mut out, valued, p, op, s, v[names::SEED]);
-    let end = faces::put_arrays(&mut out, run, op, s);
-    let n = output::within(end, &out);
-    write(rt, &out[..n])
+// Runner the point, and writes all that is told of it.
+fn tell(
+    point: Program<'_>,
+    points: Points<'_>,
+    number: u64,
+    values: [u64; names::COUNT],
+) -> Result<(), Stop> {
+    let s = settings::settings_of(&values);
+    let op = operation::operation_of(points.plan.draw);
+    let mut space = [0u8; SPACE];
+    let mut text = Writer::over(&mut space);
+    put_head(&mut text, points.plan, number);
+    text.values(&values);
+    put_run(&mut text, points, op, s, values[names::SEED]);
+    text.arrays(op, s);
+    point.lines(Stream::Standard, text.text())
 }
 
 // The point's number, the drawing and the memory.
-fn put_head(out: &mut [u8], p: Plan, point: u64) -> usize {
-    let a = faces::put_named(out, 0, b"point\t", point, b' ');
-    let b = faces::put_named(out, a, b"of ", p.points, ascii::LINE_END);
-    let c = put_draw(out, b, p.draw);
-    let d = faces::put_named(out, c, b"memory\t", p.words, b' ');
-    put_bytes::bytes(out, d, b"words\n")
-}
-
-fn put_draw(out: &mut [u8], at: usize, draw: u64) -> usize {
-    let list = names::drawings();
-    let a = put_bytes::bytes(out, at, b"draw\t");
-    let b = put_bytes::bytes(out, a, faces::field(&list, draw));
-    put_bytes::bytes(out, b, b"\n")
+fn put_head(text: &mut Writer<'_>, p: Plan, number: u64) {
+    let drawings = names::drawings();
+    let mut names = drawings.split(|c| *c == ascii::TAB);
+    let name = names.nth(p.draw as usize).unwrap_or(&[]);
+    text.named(b"point\t", number, b' ')
+        .named(b"of ", p.points, ascii::LINE_END)
+        .bytes(b"draw\t")
+        .bytes(name)
+        .bytes(b"\n")
+        .named(b"memory\t", p.words, b' ')
+        .bytes(b"words\n");
 }
 
 // What the drawing gives over the image of the seed.
-fn put_run(out: &mut [u8], at: usize, p: Plan, op: Operation, s: Settings, seed: u64) -> usize {
+fn put_run(text: &mut Writer<'_>, points: Points<'_>, op: Operation, s: Settings, seed: u64) {
     let mut image = [0u16; names::PLAN_WORDS];
     let mut memory = [0u16; names::PLAN_WORDS];
-    let words = listings::words_of(p, &image, &memory);
-    let ran = run(&mut image[0..words], &mut memory[0..words], op, s, seed);
-    let o = ran.outcome;
-    let time = fill_timing::fill_time(op, s, o.visited);
-    faces::put_outcome(out, at, o, ran.changed, time.states)
-}
-
-// What a drawing hands back, and the bits that it changed.
-#[derive(Drop)]
-struct Drawn {
-    outcome: Outcome,
-    changed: u64,
-}
-
-fn run(image: &mut [u16], memory: &mut [u16], op: Operation, s: Settings, seed: u64) -> Drawn {
-    image::fill_image(image, seed);
-    image::fill_image(memory, seed);
-    let outcome = drawing::draw(memory, op, s, 0, false, drawing::UNLIMITED);
-    let c = memory::changed(image, memory);
-    Drawn {
-        outcome,
-        changed: c.bits,
-    }
+    let mut runner = Runner::over(points, &mut image, &mut memory);
+    let (outcome, changed) = runner.drawn(op, s, seed);
+    let time = fill_timing::fill_time(op, s, outcome.visited);
+    text.outcome(outcome, changed, time.states);
 }

@@ -1,80 +1,81 @@
 // Progress, where standard error is a terminal and what is written goes elsewhere: points done and
 // of how many, the rate and the time left, at most once a second, each line over the last one.
+use crate::program::LINE;
+use crate::stream;
 use crate::stream::Stream;
-use crate::{output, shown, stream};
+use crate::writer::Writer;
 use std::io::IsTerminal;
 use std::time::{Clock, CpuClock};
 
-// Is it shown; when did the run start, with how many points done before; when was it shown last?
+// Of how many points, with how many done before; when did the run start, when was it shown last?
 #[derive(Clone, Copy)]
-pub struct Progress {
-    pub on: bool,
-    pub begun: u64,
-    pub before: u64,
-    pub last: u64,
+pub struct Progress<'a> {
+    rt: &'a HostRuntime,
+    count: u64,
+    before: u64,
+    begun: u64,
+    last: u64,
 }
 
-// A run that writes there, with so many points done before it.
-pub fn start(rt: &HostRuntime, to: Stream<'_>, before: u64) -> Progress {
-    let t = now(rt);
-    Progress {
-        on: rt.stderr().is_terminal() & !stream::is_terminal(rt, to),
-        begun: t,
-        before,
-        last: t,
-    }
-}
-
-// A line, where the second is another.
-pub fn tell(rt: &HostRuntime, p: Progress, done: u64, count: u64) -> Progress {
-    if !p.on {
-        return p;
-    }
-    let t = now(rt);
-    if t == p.last {
-        return p;
-    }
-    show(rt, p, t, done, count, false);
-    Progress {
-        on: true,
-        begun: p.begun,
-        before: p.before,
-        last: t,
+impl<'a> Progress<'a> {
+    // That of a run which writes there, where it is shown.
+    pub fn start(
+        rt: &'a HostRuntime,
+        to: Stream<'_>,
+        before: u64,
+        count: u64,
+    ) -> Option<Progress<'a>> {
+        if !rt.stderr().is_terminal() || stream::is_terminal(rt, to) {
+            return None;
+        }
+        let begun = now(rt);
+        Some(Progress {
+            rt,
+            count,
+            before,
+            begun,
+            last: begun,
+        })
     }
 }
 
-// The last line.
-pub fn end(rt: &HostRuntime, p: Progress, done: u64, count: u64) {
-    if p.on {
-        show(rt, p, now(rt), done, count, true);
+impl Progress<'_> {
+    // A line, where the second is another.
+    pub fn tell(&mut self, done: u64) {
+        let t = now(self.rt);
+        if t != self.last {
+            self.show(t, done, false);
+            self.last = t;
+        }
     }
-}
 
-// `sweep: 61% of 20000 points, 400 a second, 19 s left`.
-fn show(rt: &HostRuntime, p: Progress, t: u64, done: u64, count: u64, last: bool) {
-    let seconds = less(t, p.begun);
-    let run = less(done, p.before);
-    let time = if last {
-        seconds
-    } else {
-        left(run, less(count, done), seconds)
-    };
-    let mut out = [0u8; shown::LINE];
-    let start = put_bytes::bytes(&mut out, 0, b"\rsweep: ");
-    let percent = put_bytes::number(&mut out, start, percent(done, count), b'%');
-    let of = put_bytes::bytes(&mut out, percent, b" of ");
-    let all = put_bytes::number(&mut out, of, count, b' ');
-    let points = put_bytes::bytes(&mut out, all, b"points, ");
-    let rate = put_bytes::number(&mut out, points, rate(run, seconds), b' ');
-    let next = put_bytes::bytes(&mut out, rate, b"a second, ");
-    let at = put_bytes::number(&mut out, next, time, b' ');
-    let end = put_bytes::bytes(&mut out, at, b"s ");
-    let n = output::within(end, &out);
-    stream::complain(rt, &out[..n]);
-    if last {
-        stream::complain(rt, b"in all  \n");
-    } else {
-        stream::complain(rt, b"left  ");
+    // The last line.
+    pub fn end(self, done: u64) {
+        self.show(now(self.rt), done, true);
+    }
+
+    // `sweep: 61% of 20000 points, 400 a second, 19 s left`.
+    fn show(self, t: u64, done: u64, last: bool) {
+        let seconds = t.saturating_sub(self.begun);
+        let run = done.saturating_sub(self.before);
+        let time = if last {
+            seconds
+        } else {
+            left(run, self.count.saturating_sub(done), seconds)
+        };
+        let mut space = [0u8; LINE];
+        let mut line = Writer::over(&mut space);
+        line.named(b"\rsweep: ", percent(done, self.count), b'%')
+            .named(b" of ", self.count, b' ')
+            .named(b"points, ", rate(run, seconds), b' ')
+            .named(b"a second, ", time, b' ')
+            .bytes(b"s ");
+        stream::complain(self.rt, line.text());
+        if last {
+            stream::complain(self.rt, b"in all  \n");
+        } else {
+            stream::complain(self.rt, b"left  ");
+        }
     }
 }
 
@@ -91,10 +92,7 @@ fn percent(done: u64, count: u64) -> u64 {
 
 // Points a second.
 fn rate(done: u64, seconds: u64) -> u64 {
-    if seconds == 0 {
-        return done;
-    }
-    done / seconds
+    done.checked_div(seconds).unwrap_or(done)
 }
 
 // The seconds that the rest takes at the rate so far, which is reckoned by the hour.
@@ -116,20 +114,14 @@ const MANY: u64 = 1 << 50;
 // Seconds of an hour.
 const HOUR: u64 = 3600;
 
+// A quotient: 0 where there is none.
 fn quotient(a: u64, b: u64) -> u64 {
-    if b == 0 { 0 } else { a / b }
-}
-
-fn less(a: u64, b: u64) -> u64 {
-    if a < b { 0 } else { a - b }
+    a.checked_div(b).unwrap_or(0)
 }
 
 // The time in seconds: 0 where the clock tells none.
 fn now(rt: &HostRuntime) -> u64 {
-    match rt.since_1970() {
-        Ok(time) => time.as_secs(),
-        Err(_) => 0,
-    }
+    rt.since_1970().map_or(0, |time| time.as_secs())
 }
 
 // The processor time spent, in millionths of a second: 0 where the clock tells none.
@@ -137,15 +129,10 @@ pub fn spent(rt: &HostRuntime) -> u64 {
     match rt.process_cpu_time() {
         Ok(time) => {
             let whole = time.as_secs().saturating_mul(MILLION);
-            whole.saturating_add(time.subsec_micros() as u64)
+            whole.saturating_add(u64::from(time.subsec_micros()))
         }
         Err(_) => 0,
     }
 }
 
 const MILLION: u64 = 1000000;
-
-// The time between two.
-pub fn took(from: u64, to: u64) -> u64 {
-    less(to, from)
-}

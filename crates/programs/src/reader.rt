@@ -1,108 +1,91 @@
-// A text that is read from a stream line by line, over a lent buffer.
+// A text that is read from a stream line by line.
 ghost use Rattle.std.specs.Prelude.{◌≡◌, ◌-◌, ◌≤◌, length};
+ghost use Rattle.programs.specs.declared.reader.TheConstants.{SPACE};
 
 use crate::stream;
 use crate::stream::Stream;
 use std::io;
 
-// The buffer's bytes from `from` up to `end` are there and not yet handed out.
-#[derive(Clone, Copy)]
-pub struct Reader {
-    pub from: usize,
-    pub end: usize,
+// No line is longer.
+const SPACE: usize = 65536;
+
+// What was read: of the buffer's bytes, those from `line` up to `to` are the last piece, and those
+// from `from` up to `end` are not yet handed out.
+#[derive(Drop)]
+pub struct Reader<'a> {
+    rt: &'a HostRuntime,
+    stream: Stream<'a>,
+    buffer: [u8; SPACE],
+    line: usize,
+    to: usize,
+    from: usize,
+    end: usize,
+    ghost piece: { (line ≤ to) × (to ≤ SPACE) },
+    ghost rest: { (from ≤ end) × (end ≤ SPACE) },
 }
 
-// What comes next: a line, a last one that no line end ends, nothing more, a line that is longer
-// than the buffer, or a read that failed, and why.
+// A line; a last one that no line end ends; or the beginning of one that is longer than the buffer.
 #[derive(Clone, Copy)]
 pub enum Piece {
     Line,
     Torn,
-    Nothing,
     Long,
-    Failed(io::Error),
 }
 
-// It, where its bytes stand in the buffer, and the reader behind it.
-#[derive(Clone, Copy)]
-pub struct PieceAt {
-    pub kind: Piece,
-    pub from: usize,
-    pub to: usize,
-    pub reader: Reader,
-}
-
-pub fn start() -> Reader
-    ensures { (result.from ≡ 0) × (result.end ≡ 0) }
-{
-    Reader { from: 0, end: 0 }
-}
-
-fn piece_at(kind: Piece, from: usize, to: usize, behind: usize, end: usize) -> PieceAt
-    ensures { (result.from ≡ from) × (result.to ≡ to)
-        × (result.reader.from ≡ behind) × (result.reader.end ≡ end) }
-{
-    let reader = Reader { from: behind, end };
-    PieceAt {
-        kind,
-        from,
-        to,
-        reader,
-    }
-}
-
-// The next line. Where it is not whole in the buffer, its bytes are moved to the front and more is
-// read.
-pub fn next(rt: &HostRuntime, from: Stream<'_>, buffer: &mut [u8], r: Reader) -> PieceAt
-    requires { (r.from ≤ r.end) × (r.end ≤ length buffer.old) }
-    ensures from_le_to { (result.from ≤ result.to) × (result.to ≤ length buffer.new) }
-    ensures from_le_end { (result.reader.from ≤ result.reader.end)
-        × (result.reader.end ≤ length buffer.new) }
-    ensures buffer_len_unchanged { length buffer.new ≡ length buffer.old }
-{
-    let mut start = r.from;
-    let mut end = r.end;
-    loop {
-        let at = line_end(buffer, start, end);
-        if at < end {
-            return piece_at(Piece::Line, start, at, at + 1, end);
-        }
-        end = moved(buffer, start, end);
-        start = 0;
-        if buffer.len() <= end {
-            return piece_at(Piece::Long, 0, end, end, end);
-        }
-        match stream::read(rt, from, &mut buffer[end..]) {
-            Ok(0) => return piece_at(last_kind(end), 0, end, end, end),
-            Ok(n) => end += n,
-            Err(e) => return piece_at(Piece::Failed(e), 0, end, end, end),
+impl<'a> Reader<'a> {
+    pub fn over(rt: &'a HostRuntime, stream: Stream<'a>) -> Reader<'a> {
+        Reader {
+            rt,
+            stream,
+            buffer: [0; SPACE],
+            line: 0,
+            to: 0,
+            from: 0,
+            end: 0,
         }
     }
 }
 
-// What stands at the input's end, where so many bytes are left.
-fn last_kind(left: usize) -> Piece {
-    if left == 0 {
-        Piece::Nothing
-    } else {
-        Piece::Torn
+impl Reader<'_> {
+    // The bytes of the last piece, without a line end.
+    pub fn bytes(&self) -> &[u8] {
+        &self.buffer[self.line..self.to]
     }
-}
 
-// Where the first line end of the bytes from `from` up to `end` stands: at `end` where there is
-// none.
-fn line_end(buffer: &[u8], from: usize, end: usize) -> usize
-    requires { (from ≤ end) × (end ≤ length buffer.now) }
-    ensures { (from ≤ result) × (result ≤ end) }
-{
-    let mut i = from;
-    while i < end {
-        if buffer[i] == ascii::LINE_END {
-            return i;
+    // The next piece, or nothing at the end. Where a line is not whole in the buffer, its bytes are
+    // moved to the front and more is read.
+    pub fn next(&mut self) -> io::Result<Option<Piece>> {
+        loop {
+            let rest = &self.buffer[self.from..self.end];
+            if let Some(n) = rest.iter().position(|b| *b == ascii::LINE_END) {
+                self.line = self.from;
+                self.to = self.from + n;
+                self.from = self.to + 1;
+                return Ok(Some(Piece::Line));
+            }
+            self.end = moved(&mut self.buffer, self.from, self.end);
+            self.from = 0;
+            if self.end == SPACE {
+                return Ok(Some(self.last(Piece::Long)));
+            }
+            let n = stream::read(self.rt, self.stream, &mut self.buffer[self.end..])?;
+            if n == 0 && self.end == 0 {
+                return Ok(None);
+            }
+            if n == 0 {
+                return Ok(Some(self.last(Piece::Torn)));
+            }
+            self.end += n;
         }
-        i += 1;
     }
-    i
+
+    // All that is left, as a piece.
+    fn last(&mut self, piece: Piece) -> Piece {
+        self.line = self.from;
+        self.to = self.end;
+        self.from = self.end;
+        piece
+    }
 }
 
 // Moves the bytes from `from` up to `end` to the front, and gives how many they are.
@@ -111,11 +94,6 @@ fn moved(buffer: &mut [u8], from: usize, end: usize) -> usize
     ensures { (result ≡ end - from)
         × (length buffer.new ≡ length buffer.old) }
 {
-    let n = end - from;
-    let mut i = 0;
-    while i < n {
-        buffer[i] = buffer[from + i];
-        i += 1;
-    }
-    n
+    buffer.copy_within(from..end, 0);
+    end - from
 }

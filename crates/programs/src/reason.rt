@@ -1,132 +1,83 @@
 // Why a plan is refused, in words: one line on standard error, `PLAN:LINE: refused N: words`, with
 // the word at fault where it is known.
-use crate::{arguments, output, shown, stream};
+use crate::program::{MESSAGE, PATH};
+use crate::writer::Writer;
+use crate::{arguments, stream};
 use plan::Plan;
-
-// A path may be so long, and the rest of the line.
-const SPACE: usize = shown::PATH + shown::LINE;
 
 // The line of the plan that argument i names, and whose text this is.
 pub fn tell(rt: &HostRuntime, i: usize, text: &[u8], p: Plan) {
-    let mut out = [0u8; SPACE];
-    let named = put_plan(rt, &mut out, i);
-    let colon = put_bytes::bytes(&mut out, named, b":");
-    let numbered = put_bytes::number(&mut out, colon, p.line, b':');
-    let start = put_bytes::bytes(&mut out, numbered, b" refused ");
-    let next = put_bytes::number(&mut out, start, p.answer as u64, b':');
-    let behind = put_words(&mut out, next, p.answer);
-    let at = put_fault(&mut out, behind, text, p);
-    let end = put_bytes::bytes(&mut out, at, b"\n");
-    let n = output::within(end, &out);
-    stream::complain(rt, &out[..n]);
-}
-
-// The plan's name.
-fn put_plan(rt: &HostRuntime, out: &mut [u8], i: usize) -> usize {
+    let mut argument = [0u8; PATH];
+    let length = arguments::fill(rt, i, &mut argument);
+    let mut space = [0u8; MESSAGE];
+    let mut line = Writer::over(&mut space);
     if arguments::is(rt, i, b"-") {
-        return put_bytes::bytes(out, 0, b"standard input");
+        line.bytes(b"standard input");
+    } else {
+        line.path(&argument[..length]);
     }
-    let mut space = [0u8; shown::PATH];
-    let length = arguments::fill(rt, i, &mut space);
-    shown::put_path(out, 0, &space[..length])
+    line.bytes(b":")
+        .number(p.line, b':')
+        .named(b" refused ", p.answer as u64, b':')
+        .bytes(words_of(p.answer));
+    let word = fault_in(line_of(text, p.line), p.answer).unwrap_or(&[]);
+    if !word.is_empty() {
+        line.bytes(b": ").word(word);
+    }
+    line.bytes(b"\n");
+    stream::complain(rt, line.text());
 }
 
 // What a refusal's number means.
-fn put_words(out: &mut [u8], at: usize, answer: u32) -> usize {
+fn words_of(answer: u32) -> &'static [u8] {
     match answer {
-        20 => put_bytes::bytes(out, at, b" a line has a wrong form"),
-        21 => put_bytes::bytes(out, at, b" a name is unknown or came before"),
-        22 => put_bytes::bytes(
-            out,
-            at,
-            b" a value is too large for its name or stands twice",
-        ),
-        23 => put_bytes::bytes(out, at, b" more than 8 axes, or more than 64 values on one"),
-        _ => at,
+        20 => b" a line has a wrong form",
+        21 => b" a name is unknown or came before",
+        22 => b" a value is too large for its name or stands twice",
+        23 => b" more than 8 axes, or more than 64 values on one",
+        _ => b"",
     }
 }
 
-// A colon and the word at fault, where it is known: the name of 21, and a value of 20 and of 22.
-fn put_fault(out: &mut [u8], at: usize, text: &[u8], p: Plan) -> usize {
-    let line = text::part(text, line_start(text, p.line), ascii::LINE_END);
-    let answer = p.answer;
+// A line of a text, the lines counted from 1: an empty one where there are fewer.
+fn line_of(text: &[u8], line: u64) -> &[u8] {
+    let mut lines = text.split(|c| *c == ascii::LINE_END);
+    lines.nth(line.saturating_sub(1) as usize).unwrap_or(&[])
+}
+
+// The word at fault, where it is known: the name of 21, and a value of 20 and of 22.
+fn fault_in(line: &[u8], answer: u32) -> Option<&[u8]> {
     match answer {
-        20 => put_value(out, at, line, true),
-        21 => put_word(out, at, tabs::second(line)),
-        22 => put_value(out, at, line, false),
-        _ => at,
+        20 => values_of(line)?
+            .split(is_tab)
+            .find(|field| tabs::no_number(field)),
+        21 => Some(tabs::second(line)),
+        22 => too_large_or_twice(line, values_of(line)?),
+        _ => None,
     }
 }
 
-// A colon and a word, where it is one.
-fn put_word(out: &mut [u8], at: usize, word: &[u8]) -> usize {
-    if word.len() == 0 {
-        return at;
-    }
-    let start = put_bytes::bytes(out, at, b": ");
-    shown::put(out, start, word)
-}
-
-// Where a line starts, the lines counted from 1.
-fn line_start(text: &[u8], line: u64) -> usize {
-    let mut left = line;
-    let mut i = 0;
-    while i < text.len() {
-        if left <= 1 {
-            return i;
-        }
-        if text[i] == ascii::LINE_END {
-            left -= 1;
-        }
-        i += 1;
-    }
-    i
-}
-
-// The first value of an `axis` line that is no number, or is too large for its name or stands
-// before.
-fn put_value(out: &mut [u8], at: usize, line: &[u8], is_form: bool) -> usize {
+// The values of an `axis` line.
+fn values_of(line: &[u8]) -> Option<&[u8]> {
     if text::part(line, 0, ascii::TAB) != b"axis".as_slice() {
-        return at;
+        return None;
     }
-    let place = fault_at(line, tabs::third_at(line), is_form);
-    put_word(out, at, text::part(line, place, ascii::TAB))
+    line.get(tabs::third_at(line)..)
 }
 
-// Its place, among the values from a place on.
-fn fault_at(line: &[u8], values: usize, is_form: bool) -> usize {
-    let mut p = values;
-    while p <= line.len() {
-        let end = text::part_end(line, p, ascii::TAB);
-        if is_fault(line, values, p, text::part(line, p, ascii::TAB), is_form) {
-            return p;
+// The first of a line's values that is too large for its name or stands before.
+fn too_large_or_twice<'a>(line: &[u8], values: &'a [u8]) -> Option<&'a [u8]> {
+    let greatest = names::greatest(line::name_of(line));
+    for (i, field) in values.split(is_tab).enumerate() {
+        let value = tabs::field_value(field);
+        let mut before = values.split(is_tab).take(i);
+        if greatest < value || before.any(|earlier| tabs::field_value(earlier) == value) {
+            return Some(field);
         }
-        p = end + 1;
     }
-    p
+    None
 }
 
-// Is the value at a place at fault?
-fn is_fault(line: &[u8], values: usize, place: usize, field: &[u8], is_form: bool) -> bool {
-    if is_form {
-        return tabs::no_number(field);
-    }
-    let v = tabs::field_value(field);
-    (names::greatest(line::name_of(line)) < v) | stands_before(line, values, place, v)
-}
-
-// Does a value stand among the fields between two places?
-fn stands_before(line: &[u8], from: usize, to: usize, v: u64) -> bool {
-    let mut p = from;
-    while p <= line.len() {
-        if to <= p {
-            return false;
-        }
-        let end = text::part_end(line, p, ascii::TAB);
-        if tabs::field_value(&line[p..end]) == v {
-            return true;
-        }
-        p = end + 1;
-    }
-    false
+fn is_tab(c: &u8) -> bool {
+    *c == ascii::TAB
 }

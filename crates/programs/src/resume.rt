@@ -1,22 +1,22 @@
 // --resume: goes on with a file that is a beginning of the listing. Every line of the file is held
 // against a dry run of its point, which tells all but `changed`. The lines of the first second,
 // some spread over the file and the last one are run again and compared whole.
-ghost use Rattle.std.specs.Prelude.{◌≡◌, ◌+◌, ◌^◌, ◌<◌, ◌≤◌, length};
+ghost use Rattle.std.specs.Prelude.{◌+◌, ◌^◌, ◌<◌};
 
 use crate::arguments::FILE;
-use crate::output::Status;
+use crate::form::Form;
+use crate::program::{MESSAGE, PATH, Program};
 use crate::reader::{Piece, Reader};
+use crate::runner::{PointRange, Points, Runner};
+use crate::stop::Stop;
 use crate::stream::Stream;
-use crate::{arguments, failure, input, listings, output, progress, reader, shown, stream};
-use plan::Plan;
+use crate::writer::Writer;
+use crate::{arguments, input, listings, progress};
 use run::LINE;
 use std::fs::{File, OpenOptions};
 use std::io;
 use std::io::{Seek, SeekFrom};
 use std::os::unix::fs::FileExt;
-
-// The buffer that the file is read over.
-const INPUT: usize = 65536;
 
 // For so many millionths of a second every line is run again, and then for so many some lines; the
 // last one is in any case.
@@ -24,56 +24,21 @@ const SOON: u64 = 1000000;
 
 const ENOUGH: u64 = 10000000;
 
-// Some points of a plan: `count` of them from `first` on.
-#[derive(Clone, Copy)]
-struct Part {
-    plan: Plan,
-    first: u64,
-    count: u64,
-}
-
-// What a file holds: is it a beginning, how many points' lines and how many bytes in whole lines,
-// where the last of these starts, and does part of a line follow?
-#[derive(Clone, Copy)]
-struct Held {
-    good: bool,
-    points: u64,
-    bytes: u64,
-    last: u64,
-    torn: bool,
-}
-
 // Goes on with FILE, which is made where it is missing.
-pub fn go_on(rt: &HostRuntime, p: Plan, table: &[u64], first: u64, count: u64) -> Status {
-    if (first >= p.points) & (count != 0) {
-        return output::no_point(rt, first, p.points);
-    }
-    let part = Part {
-        plan: p,
-        first,
-        count: listings::asked_of(p, first, count),
-    };
-    let mut space = [0u8; shown::PATH];
-    let length = arguments::fill(rt, FILE, &mut space);
+pub fn go_on(sweep: Program<'_>, points: Points<'_>, range: PointRange) -> Result<(), Stop> {
+    let range = points.in_range(sweep, range)?;
+    let mut space = [0u8; PATH];
+    let length = arguments::fill(sweep.rt, FILE, &mut space);
     let path = &space[..length];
-    match opened(rt, path) {
-        Ok(file) => go_on_with(rt, &file, path, part, table),
-        Err(e) => failed(rt, path, e),
+    match opened(sweep.rt, path) {
+        Ok(file) => go_on_with(sweep, &file, path, points, range),
+        Err(e) => Err(sweep.failed(path, e)),
     }
-}
-
-// A file that could not be gone on with.
-fn failed(rt: &HostRuntime, path: &[u8], e: io::Error) -> Status {
-    failure::tell(rt, b"sweep: ", path, e);
-    Status::Error
 }
 
 // The file, open for reading and writing, and at its start.
 fn opened(rt: &HostRuntime, path: &[u8]) -> io::Result<File> {
-    match input::path_of(path) {
-        Ok(path) => at_start(opened_or_made(rt, path)?),
-        Err(e) => Err(e),
-    }
+    at_start(opened_or_made(rt, input::path_of(path)?)?)
 }
 
 // A file that can be gone about in, at its start. Not so a pipe or a terminal.
@@ -86,17 +51,14 @@ fn at_start(file: File) -> io::Result<File> {
 
 fn opened_or_made(rt: &HostRuntime, path: &str) -> io::Result<File> {
     match opened_for_both(rt, path) {
-        Ok(file) => Ok(file),
-        Err(e) => {
-            if e.kind() != io::ErrorKind::NotFound {
-                return Err(e);
-            }
+        Err(e) if e.kind() == io::ErrorKind::NotFound => {
             OpenOptions::new()
                 .write(true)
                 .create_new(true)
                 .open(rt, path)?;
             opened_for_both(rt, path)
         }
+        file => file,
     }
 }
 
@@ -105,374 +67,251 @@ fn opened_for_both(rt: &HostRuntime, path: &str) -> io::Result<File> {
 }
 
 // Goes on with an open file.
-fn go_on_with(rt: &HostRuntime, file: &File, path: &[u8], part: Part, table: &[u64]) -> Status
-    requires { part.first + part.count < 2 ^ 64 }
+fn go_on_with(
+    sweep: Program<'_>,
+    file: &File,
+    path: &[u8],
+    points: Points<'_>,
+    range: PointRange,
+) -> Result<(), Stop>
+    requires { range.first + range.count < 2 ^ 64 }
 {
     let mut image = [0u16; names::PLAN_WORDS];
     let mut memory = [0u16; names::PLAN_WORDS];
-    go_on_in(rt, file, path, part, table, &mut image, &mut memory)
+    let mut runner = Runner::over(points, &mut image, &mut memory);
+    let resumed = Resumed {
+        sweep,
+        file,
+        path,
+        range,
+    };
+    resumed.go_on(&mut runner)
 }
 
-// Goes on behind the whole lines, where the file is a beginning.
-fn go_on_in(
-    rt: &HostRuntime,
-    file: &File,
-    path: &[u8],
-    part: Part,
-    table: &[u64],
-    image: &mut [u16],
-    memory: &mut [u16],
-) -> Status
-    requires { part.first + part.count < 2 ^ 64 }
-{
-    let held = held_in(rt, file, path, part, table, image, memory);
-    if !held.good {
-        return Status::Error;
+// A file to go on with, its path, and the points whose lines it is to have.
+#[derive(Clone, Copy)]
+struct Resumed<'a> {
+    sweep: Program<'a>,
+    file: &'a File,
+    path: &'a [u8],
+    range: PointRange,
+}
+
+// What a file that is a beginning holds: how many points' lines and how many bytes in whole lines,
+// where the last of these starts, and does part of a line follow?
+#[derive(Clone, Copy)]
+struct Held {
+    points: u64,
+    bytes: u64,
+    last: u64,
+    torn: bool,
+}
+
+// What stands where a line of the file is to stand: the line, which has so many bytes with its end;
+// the beginning of it; or nothing.
+#[derive(Clone, Copy)]
+enum Found {
+    Line(u64),
+    Torn,
+    Nothing,
+}
+
+impl Resumed<'_> {
+    // Goes on behind the whole lines, where the file is a beginning.
+    fn go_on(self, runner: &mut Runner<'_>) -> Result<(), Stop>
+        requires { self.range.first + self.range.count < 2 ^ 64 }
+    {
+        let held = self.held(runner)?;
+        if let Err(e) = at_end(self.file, held) {
+            return Err(self.failed(e));
+        }
+        let to = Stream::File(self.file);
+        if held.bytes == 0 && self.range.first == 0 {
+            Form::Results.head(self.sweep, to)?;
+        }
+        let before = held.points.min(self.range.count);
+        listings::run_all(self.sweep, to, runner, self.range, before)
     }
-    if let Err(e) = at_end(file, held.bytes, held.torn) {
-        return failed(rt, path, e);
+
+    // What the file holds; a line on standard error where it is no beginning.
+    fn held(self, runner: &mut Runner<'_>) -> Result<Held, Stop> {
+        let mut reader = Reader::over(self.sweep.rt, Stream::File(self.file));
+        let mut held = Held {
+            points: 0,
+            bytes: 0,
+            last: 0,
+            torn: false,
+        };
+        if self.range.first == 0 {
+            match self.heading(&mut reader)? {
+                Found::Line(bytes) => held.bytes = bytes,
+                found => {
+                    held.torn = found.is_torn();
+                    return Ok(held);
+                }
+            }
+        }
+        let held = self.points_in(&mut reader, runner, held)?;
+        self.last_again(runner, held)
     }
-    let to = Stream::File(file);
-    if held.bytes == 0 {
-        let status = listings::heading(rt, to, part.first);
-        if status != Status::Done {
-            return status;
+
+    // The heading.
+    fn heading(self, reader: &mut Reader<'_>) -> Result<Found, Stop> {
+        let mut space = [0u8; LINE];
+        let mut heading = Writer::over(&mut space);
+        heading.put(first_line::put_heading);
+        let Some(piece) = self.next(reader)? else {
+            return Ok(Found::Nothing);
+        };
+        let line = reader.bytes();
+        let fits = match piece {
+            Piece::Line => is_line(line, heading.text()),
+            Piece::Torn => starts(heading.text(), line),
+            Piece::Long => false,
+        };
+        self.found(fits, piece, line, 1)
+    }
+
+    // The lines of the points, behind what the file holds before them.
+    fn points_in(
+        self,
+        reader: &mut Reader<'_>,
+        runner: &mut Runner<'_>,
+        before: Held,
+    ) -> Result<Held, Stop> {
+        let mut held = before;
+        let mut again: u64 = 0;
+        for k in 0..self.range.count {
+            match self.point(reader, runner, k, again)? {
+                Found::Line(bytes) => {
+                    held.last = held.bytes;
+                    held.bytes = held.bytes.saturating_add(bytes);
+                    held.points = k + 1;
+                }
+                found => {
+                    held.torn = found.is_torn();
+                    return Ok(held);
+                }
+            }
+            again = next_again(k, again);
+        }
+        self.all_in(reader)?;
+        Ok(held)
+    }
+
+    // The line of the point k of the range.
+    fn point(
+        self,
+        reader: &mut Reader<'_>,
+        runner: &mut Runner<'_>,
+        k: u64,
+        again: u64,
+    ) -> Result<Found, Stop> {
+        let Some(piece) = self.next(reader)? else {
+            return Ok(Found::Nothing);
+        };
+        let line = reader.bytes();
+        let point = self.range.first.wrapping_add(k);
+        let fits = match piece {
+            Piece::Line => {
+                let whole = is_run_again(k, again, progress::spent(self.sweep.rt));
+                runner.points.could_be(point, line) && (!whole || is_own(runner, point, line))
+            }
+            Piece::Torn => begins_line(runner, point, line),
+            Piece::Long => false,
+        };
+        self.found(fits, piece, line, self.line_number(k))
+    }
+
+    // Behind the lines of all points there must be nothing more.
+    fn all_in(self, reader: &mut Reader<'_>) -> Result<(), Stop> {
+        match self.next(reader)? {
+            None => Ok(()),
+            Some(_) => Err(self.no_beginning(self.line_number(self.range.count))),
         }
     }
-    let before = listings::least(held.points, part.count);
-    listings::run_all(
-        rt, to, part.plan, table, part.first, part.count, before, image, memory,
-    )
+
+    // The last whole line of a beginning, run again.
+    fn last_again(self, runner: &mut Runner<'_>, held: Held) -> Result<Held, Stop> {
+        if held.points == 0 {
+            return Ok(held);
+        }
+        let mut line = [0u8; LINE];
+        let n = self.file.read_at(&mut line, held.last).unwrap_or(0);
+        let whole = text::part(&line[..n], 0, ascii::LINE_END);
+        let k = held.points - 1;
+        if is_own(runner, self.range.first.wrapping_add(k), whole) {
+            return Ok(held);
+        }
+        Err(self.no_beginning(self.line_number(k)))
+    }
+
+    // The next piece of the file.
+    fn next(self, reader: &mut Reader<'_>) -> Result<Option<Piece>, Stop> {
+        reader.next().map_err(|e| self.failed(e))
+    }
+
+    // What a piece is, which fits or not where the line of a number is to stand.
+    fn found(self, fits: bool, piece: Piece, line: &[u8], number: u64) -> Result<Found, Stop> {
+        if !fits {
+            return Err(self.no_beginning(number));
+        }
+        match piece {
+            Piece::Line => Ok(Found::Line((line.len() as u64).saturating_add(1))),
+            _ => Ok(Found::Torn),
+        }
+    }
+
+    // The number of the file's line that the point k of the range should have.
+    fn line_number(self, k: u64) -> u64 {
+        let heading = u64::from(self.range.first == 0);
+        k.wrapping_add(1).wrapping_add(heading)
+    }
+
+    // A file that is no beginning, by one of its lines, counted from 1.
+    fn no_beginning(self, line: u64) -> Stop {
+        let mut space = [0u8; MESSAGE];
+        let mut words = Writer::over(&mut space);
+        words
+            .path(self.path)
+            .bytes(b": not a beginning of the listing: line ")
+            .number(line, ascii::LINE_END);
+        self.sweep.error(words.text())
+    }
+
+    // A file that could not be gone on with.
+    fn failed(self, e: io::Error) -> Stop {
+        self.sweep.failed(self.path, e)
+    }
 }
 
-// Cuts the file behind so many bytes where part of a line follows, and goes to its end.
-fn at_end(file: &File, bytes: u64, torn: bool) -> io::Result<()> {
-    if torn {
-        file.set_len(bytes)?;
+impl Found {
+    fn is_torn(self) -> bool {
+        matches!(self, Found::Torn)
+    }
+}
+
+// Cuts the file behind its whole lines where part of a line follows, and goes to its end.
+fn at_end(file: &File, held: Held) -> io::Result<()> {
+    if held.torn {
+        file.set_len(held.bytes)?;
     }
     let mut at = file;
     let _ = at.seek(SeekFrom::End(0));
     Ok(())
 }
 
-// What the file holds; a line on standard error where it is no beginning.
-fn held_in(
-    rt: &HostRuntime,
-    file: &File,
-    path: &[u8],
-    part: Part,
-    table: &[u64],
-    image: &mut [u16],
-    memory: &mut [u16],
-) -> Held {
-    let mut space = [0u8; INPUT];
-    let seen = heading_in(rt, file, path, part.first, &mut space);
-    let held = seen.held;
-    if !seen.more {
-        return held;
-    }
-    let reader = seen.reader;
-    let found = points_in(
-        rt, file, path, part, table, seen.bytes, reader, &mut space, image, memory,
-    );
-    last_again(rt, file, path, part, table, found, image, memory)
-}
-
-// The heading, where the listing's start is asked for.
-fn heading_in(rt: &HostRuntime, file: &File, path: &[u8], first: u64, space: &mut [u8]) -> Seen
-    ensures { (result.reader.from ≤ result.reader.end)
-        × (result.reader.end ≤ length space.new) }
-{
-    let start = reader::start();
-    if first != 0 {
-        return seen_of(true, beginning_of(0, 0, 0, false), start);
-    }
-    let found = reader::next(rt, Stream::File(file), space, start);
-    let from = found.from;
-    let to = found.to;
-    let kind = found.kind;
-    let reader = found.reader;
-    let held = heading_of(rt, kind, path, &space[from..to]);
-    seen_of(0 < held.bytes, held, reader)
-}
-
-// A heading that is there or not, and the reader behind it.
-fn seen_of(more: bool, held: Held, reader: Reader) -> Seen
-    ensures { (result.reader.from ≡ reader.from) × (result.reader.end ≡ reader.end) }
-{
-    Seen {
-        more,
-        held,
-        reader,
-        bytes: held.bytes,
-        last: 0,
-        again: 0,
-    }
-}
-
-// What the file holds with these bytes, which are the heading or what stands there.
-fn heading_of(rt: &HostRuntime, kind: Piece, path: &[u8], line: &[u8]) -> Held {
-    match kind {
-        Piece::Nothing => beginning_of(0, 0, 0, false),
-        Piece::Failed(e) => unread(rt, path, e),
-        Piece::Line => {
-            if is_heading(line) {
-                return beginning_of(0, behind(0, line.len()), 0, false);
-            }
-            no_beginning(rt, path, 1)
-        }
-        Piece::Torn => torn_heading(rt, path, line),
-        Piece::Long => no_beginning(rt, path, 1),
-    }
-}
-
-fn beginning_of(points: u64, bytes: u64, last: u64, torn: bool) -> Held {
-    Held {
-        good: true,
-        points,
-        bytes,
-        last,
-        torn,
-    }
-}
-
-// The bytes behind a line of this length and its end, which stands behind so many.
-fn behind(bytes: u64, length: usize) -> u64 {
-    one_more(std::num::wrapping_add_u64(bytes, length as u64))
-}
-
-fn one_more(n: u64) -> u64 {
-    std::num::wrapping_add_u64(n, 1)
-}
-
-// A file that is no beginning, by one of its lines, counted from 1.
-fn no_beginning(rt: &HostRuntime, path: &[u8], line: u64) -> Held {
-    let mut out = [0u8; shown::PATH + shown::LINE];
-    let start = put_bytes::bytes(&mut out, 0, b"sweep: ");
-    let named = shown::put_path(&mut out, start, path);
-    let next = put_bytes::bytes(&mut out, named, b": not a beginning of the listing: line ");
-    let end = put_bytes::number(&mut out, next, line, ascii::LINE_END);
-    let n = output::within(end, &out);
-    stream::complain(rt, &out[..n]);
-    bad()
-}
-
-fn bad() -> Held {
-    Held {
-        good: false,
-        points: 0,
-        bytes: 0,
-        last: 0,
-        torn: false,
-    }
-}
-
-// Is a line, without its end, the heading?
-fn is_heading(line: &[u8]) -> bool {
-    let mut space = [0u8; LINE];
-    let end = first_line::put_heading(&mut space, 0);
-    let n = output::within(end, &space);
-    is_line(line, &space[..n])
-}
-
 // Is a line, without its end, this one with its end?
 fn is_line(line: &[u8], whole: &[u8]) -> bool {
-    if whole.len() == 0 {
-        return false;
+    match whole.split_last() {
+        Some((_, without_end)) => line == without_end,
+        None => false,
     }
-    let n = whole.len() - 1;
-    line == &whole[0..n]
-}
-
-// A file that has a part of the heading only.
-fn torn_heading(rt: &HostRuntime, path: &[u8], torn: &[u8]) -> Held {
-    let mut space = [0u8; LINE];
-    let end = first_line::put_heading(&mut space, 0);
-    let n = output::within(end, &space);
-    if starts(&space[..n], torn) {
-        return beginning_of(0, 0, 0, true);
-    }
-    no_beginning(rt, path, 1)
 }
 
 // Are these the first bytes of a line, and not all of them?
 fn starts(line: &[u8], bytes: &[u8]) -> bool {
-    let n = bytes.len();
-    if line.len() <= n {
-        return false;
-    }
-    &line[0..n] == bytes
-}
-
-// What is known behind a line: is there more, and if not, what the file holds; the reader, the
-// bytes of whole lines, where the last of these starts, and which point is run again next.
-#[derive(Clone, Copy)]
-struct Seen {
-    more: bool,
-    held: Held,
-    reader: Reader,
-    bytes: u64,
-    last: u64,
-    again: u64,
-}
-
-// The points' lines, from a reader on, behind so many bytes.
-fn points_in(
-    rt: &HostRuntime,
-    file: &File,
-    path: &[u8],
-    part: Part,
-    table: &[u64],
-    start: u64,
-    reader: Reader,
-    space: &mut [u8],
-    image: &mut [u16],
-    memory: &mut [u16],
-) -> Held
-    requires { (reader.from ≤ reader.end) × (reader.end ≤ length space.old) }
-{
-    let mut r = reader;
-    let mut bytes = start;
-    let mut last = start;
-    let mut again: u64 = 0;
-    let mut k: u64 = 0;
-    while k < part.count {
-        let seen = line_in(
-            rt, file, path, part, table, k, r, bytes, again, space, image, memory,
-        );
-        if !seen.more {
-            return closed(seen, k, last);
-        }
-        r = seen.reader;
-        bytes = seen.bytes;
-        last = seen.last;
-        again = seen.again;
-        k += 1;
-    }
-    all_in(rt, file, path, part, r, bytes, last, space)
-}
-
-// What a file holds that ends behind the lines of k points, the last of which starts there.
-fn closed(seen: Seen, k: u64, last: u64) -> Held {
-    let held = seen.held;
-    Held {
-        good: held.good,
-        points: k,
-        bytes: held.bytes,
-        last,
-        torn: held.torn,
-    }
-}
-
-// A file with the lines of all points: there must be nothing more.
-fn all_in(
-    rt: &HostRuntime,
-    file: &File,
-    path: &[u8],
-    part: Part,
-    r: Reader,
-    bytes: u64,
-    last: u64,
-    space: &mut [u8],
-) -> Held
-    requires { (r.from ≤ r.end) × (r.end ≤ length space.old) }
-{
-    let found = reader::next(rt, Stream::File(file), space, r);
-    let kind = found.kind;
-    match kind {
-        Piece::Nothing => beginning_of(part.count, bytes, last, false),
-        Piece::Failed(e) => unread(rt, path, e),
-        _ => no_beginning(rt, path, line_number(part.first, part.count)),
-    }
-}
-
-// The line of the point k of the part, behind so many bytes.
-fn line_in(
-    rt: &HostRuntime,
-    file: &File,
-    path: &[u8],
-    part: Part,
-    table: &[u64],
-    k: u64,
-    r: Reader,
-    bytes: u64,
-    again: u64,
-    space: &mut [u8],
-    image: &mut [u16],
-    memory: &mut [u16],
-) -> Seen
-    requires { (r.from ≤ r.end) × (r.end ≤ length space.old) }
-    ensures { (result.reader.from ≤ result.reader.end)
-        × (result.reader.end ≤ length space.new) }
-{
-    let found = reader::next(rt, Stream::File(file), space, r);
-    let from = found.from;
-    let to = found.to;
-    let kind = found.kind;
-    let reader = found.reader;
-    let held = told_of(
-        rt,
-        kind,
-        path,
-        part,
-        table,
-        k,
-        bytes,
-        again,
-        &space[from..to],
-        image,
-        memory,
-    );
-    Seen {
-        more: held.good & !held.torn & (bytes < held.bytes),
-        held,
-        reader,
-        bytes: held.bytes,
-        last: bytes,
-        again: next_again(k, again),
-    }
-}
-
-// What the file holds with these bytes, which are the line of point k or what stands there: more
-// bytes than before where they are its line.
-fn told_of(
-    rt: &HostRuntime,
-    kind: Piece,
-    path: &[u8],
-    part: Part,
-    table: &[u64],
-    k: u64,
-    bytes: u64,
-    again: u64,
-    line: &[u8],
-    image: &mut [u16],
-    memory: &mut [u16],
-) -> Held {
-    let point = std::num::wrapping_add_u64(part.first, k);
-    match kind {
-        Piece::Nothing => beginning_of(k, bytes, 0, false),
-        Piece::Failed(e) => unread(rt, path, e),
-        Piece::Line => {
-            let whole = is_run_again(k, again, progress::spent(rt));
-            if taken(part.plan, table, point, line, whole, image, memory) {
-                return beginning_of(k, behind(bytes, line.len()), 0, false);
-            }
-            no_beginning(rt, path, line_number(part.first, k))
-        }
-        Piece::Torn => {
-            if begins_line(part.plan, table, point, line, image, memory) {
-                return beginning_of(k, bytes, 0, true);
-            }
-            no_beginning(rt, path, line_number(part.first, k))
-        }
-        Piece::Long => no_beginning(rt, path, line_number(part.first, k)),
-    }
-}
-
-// The number of the file's line that a point should have.
-fn line_number(first: u64, k: u64) -> u64 {
-    let n = one_more(k);
-    if first == 0 { one_more(n) } else { n }
+    bytes.len() < line.len() && line.starts_with(bytes)
 }
 
 // Is a line run again, after so long a time? All are at first, and then some.
@@ -491,85 +330,16 @@ fn next_again(k: u64, again: u64) -> u64 {
     k + k / 2 + 1
 }
 
-// A file that could not be read.
-fn unread(rt: &HostRuntime, path: &[u8], e: io::Error) -> Held {
-    failure::tell(rt, b"sweep: ", path, e);
-    bad()
-}
-
-// Can a line be that of a point; where it is to be seen whole, is it?
-fn taken(
-    p: Plan,
-    table: &[u64],
-    point: u64,
-    line: &[u8],
-    whole: bool,
-    image: &mut [u16],
-    memory: &mut [u16],
-) -> bool {
-    if !beginning::could_be(table, p.axes, p.draw, p.words as usize, point, line) {
-        return false;
-    }
-    if whole {
-        return is_own(p, table, point, line, image, memory);
-    }
-    true
-}
-
 // Is a line that of a point? The point is run.
-fn is_own(
-    p: Plan,
-    table: &[u64],
-    point: u64,
-    line: &[u8],
-    image: &mut [u16],
-    memory: &mut [u16],
-) -> bool {
-    let mut out = [0u8; LINE];
-    let n = listings::own_line(p, table, point, &mut out, image, memory);
-    let length = output::within(n, &out);
-    is_line(line, &out[..length])
+fn is_own(runner: &mut Runner<'_>, point: u64, line: &[u8]) -> bool {
+    let mut space = [0u8; LINE];
+    let n = runner.line(point, &mut space);
+    is_line(line, &space[..n])
 }
 
 // Is it the beginning of a point's line?
-fn begins_line(
-    p: Plan,
-    table: &[u64],
-    point: u64,
-    torn: &[u8],
-    image: &mut [u16],
-    memory: &mut [u16],
-) -> bool {
-    let mut out = [0u8; LINE];
-    let n = listings::own_line(p, table, point, &mut out, image, memory);
-    let length = output::within(n, &out);
-    starts(&out[..length], torn)
-}
-
-// The last whole line of a beginning, run again.
-fn last_again(
-    rt: &HostRuntime,
-    file: &File,
-    path: &[u8],
-    part: Part,
-    table: &[u64],
-    found: Held,
-    image: &mut [u16],
-    memory: &mut [u16],
-) -> Held {
-    if !found.good {
-        return found;
-    }
-    if found.points == 0 {
-        return found;
-    }
-    let mut line = [0u8; LINE];
-    let n = file.read_at(&mut line, found.last).unwrap_or(0);
-    let whole = text::part(&line[..n], 0, ascii::LINE_END);
-    let k = found.points - 1;
-    let point = std::num::wrapping_add_u64(part.first, k);
-    if is_own(part.plan, table, point, whole, image, memory) {
-        return found;
-    }
-    no_beginning(rt, path, line_number(part.first, k))
+fn begins_line(runner: &mut Runner<'_>, point: u64, torn: &[u8]) -> bool {
+    let mut space = [0u8; LINE];
+    let n = runner.line(point, &mut space);
+    starts(&space[..n], torn)
 }

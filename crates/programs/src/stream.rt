@@ -12,6 +12,16 @@ pub enum Stream<'a> {
     File(&'a File),
 }
 
+impl Stream<'_> {
+    // What it is called where a write to it fails.
+    pub fn name(self) -> &'static [u8] {
+        match self {
+            Stream::Standard => b"standard output",
+            Stream::File(_) => b"FILE",
+        }
+    }
+}
+
 // Reads some bytes: none at the end.
 pub fn read(rt: &HostRuntime, from: Stream<'_>, buffer: &mut [u8]) -> io::Result<usize>
     ensures { ReadsAtMost result buffer.new }

@@ -10,52 +10,147 @@ use answers::answer;
 use cache::{Cache, Kind};
 use segments::Segment;
 use states::Mode;
+use std::fmt;
 use std::io::Read;
 use timing::Cycles;
 
-// Counts are held by the kind's number: 0 for lines of no kind, 8 for all lines.
+// A line has so many bytes.
+const LINE: usize = 180;
+
+// What a line tests.
+#[derive(Clone, Copy)]
+enum Test {
+    NoVector,
+    Read,
+    Write,
+    Cycles,
+    States,
+    Fetch,
+    Image,
+    Changed,
+}
+
+// The test of a line's kind.
+impl From<u32> for Test {
+    fn from(kind: u32) -> Test {
+        match kind {
+            1 => Test::Read,
+            2 => Test::Write,
+            3 => Test::Cycles,
+            4 => Test::States,
+            5 => Test::Fetch,
+            6 => Test::Image,
+            7 => Test::Changed,
+            _ => Test::NoVector,
+        }
+    }
+}
+
+impl fmt::Display for Test {
+    fn fmt<W: fmt::Write>(&self, f: &mut fmt::Formatter<W>) -> fmt::Result {
+        match self {
+            Test::NoVector => write!(f, "no vector"),
+            Test::Read => write!(f, "field read"),
+            Test::Write => write!(f, "field write"),
+            Test::Cycles => write!(f, "cycles"),
+            Test::States => write!(f, "MOVE states"),
+            Test::Fetch => write!(f, "fetch"),
+            Test::Image => write!(f, "image"),
+            Test::Changed => write!(f, "changed"),
+        }
+    }
+}
+
+// How many lines there were, and how many of them differ.
+#[derive(Clone, Copy)]
+struct Count {
+    vectors: u64,
+    differ: u64,
+}
+
+impl Count {
+    const NONE: Count = Count {
+        vectors: 0,
+        differ: 0,
+    };
+
+    // With a line more.
+    fn and(self, differs: bool) -> Count {
+        Count {
+            vectors: self.vectors.wrapping_add(1),
+            differ: self.differ.wrapping_add(u64::from(differs)),
+        }
+    }
+}
+
+impl fmt::Display for Count {
+    fn fmt<W: fmt::Write>(&self, f: &mut fmt::Formatter<W>) -> fmt::Result {
+        let vectors = self.vectors;
+        let differ = self.differ;
+        write!(f, "{vectors} vectors, {differ} differ")
+    }
+}
+
+// The counts of all lines, and of those of each test.
+#[derive(Clone, Copy)]
+struct Counts {
+    all: Count,
+    of: [Count; 8],
+}
+
+impl Counts {
+    fn of(&self, test: Test) -> Count {
+        let i = test as usize;
+        self.of.get(i).copied().unwrap_or(Count::NONE)
+    }
+
+    fn add(&mut self, test: Test, differs: bool) {
+        let i = test as usize;
+        self.all = self.all.and(differs);
+        if i < self.of.len() {
+            self.of[i] = self.of[i].and(differs);
+        }
+    }
+}
+
 fn main(rt: HostRuntime) {
-    let mut vectors = [0u64; 9];
-    let mut differ = [0u64; 9];
-    compare_all(&rt, &mut vectors, &mut differ);
-    report(&rt, &vectors, &differ);
+    let mut counts = Counts {
+        all: Count::NONE,
+        of: [Count::NONE; 8],
+    };
+    compare_all(&rt, &mut counts);
+    report(&rt, &counts);
 }
 
 // Compares line by line. A proved loop has to end, and nothing says that the input does, so the
 // loop has a last turn that no run reaches.
-fn compare_all(rt: &(impl Print + Input), vectors: &mut [u64], differ: &mut [u64]) {
+fn compare_all(rt: &(impl Print + Input), counts: &mut Counts) {
     let mut input = rt.reader();
-    let mut line: u64 = 1;
-    while line < u64::MAX && compare_line(rt, &mut input, line, vectors, differ) {
-        line += 1;
+    for line in 1..u64::MAX {
+        if !compare_line(rt, &mut input, line, counts) {
+            break;
+        }
     }
 }
 
 // Reads and compares one line; false where the input has ended.
-fn compare_line(
-    rt: &impl Print,
-    input: &mut impl Read,
-    line: u64,
-    vectors: &mut [u64],
-    differ: &mut [u64],
-) -> bool {
-    let mut bytes = [0u8; 180];
+fn compare_line(rt: &impl Print, input: &mut impl Read, line: u64, counts: &mut Counts) -> bool {
+    let mut bytes = [0u8; LINE];
     let got = read_full(input, &mut bytes);
     if got == 0 {
         return false;
     }
     let n = numbers(&bytes);
-    let kind = kind_of(got, &bytes, n[0]);
-    count(vectors, kind);
-    count(vectors, 8);
-    if agrees(kind, n) {
-        return true;
+    let test = if is_line(&bytes[..got]) {
+        Test::from(n[0])
+    } else {
+        Test::NoVector
+    };
+    let differs = !agrees(test, n);
+    if differs && counts.all.differ < 20 {
+        let _ = println!(rt; "differs at line {line}: {test}");
     }
-    if at(differ, 8) < 20 {
-        show_difference(rt, line, kind);
-    }
-    count(differ, kind);
-    count(differ, 8);
+    counts.add(test, differs);
     true
 }
 
@@ -74,43 +169,17 @@ fn read_full(input: &mut impl Read, buffer: &mut [u8]) -> usize
     done
 }
 
-// Adds 1 to a count.
-fn count(counts: &mut [u64], i: usize) {
-    if i < counts.len() {
-        counts[i] = std::num::wrapping_add_u64(counts[i], 1);
-    }
-}
-
-// A count.
-fn at(counts: &[u64], i: usize) -> u64 {
-    if i < counts.len() { counts[i] } else { 0 }
-}
-
-// The kind of a line of which so many bytes were read; 0 where it is no vector.
-fn kind_of(got: usize, line: &[u8], kind: u32) -> usize {
-    if got < 180 {
-        return 0;
-    }
-    if !is_line(line) {
-        return 0;
-    }
-    match kind {
-        1..=7 => kind as usize,
-        _ => 0,
-    }
-}
-
 // Does what the library gives agree with every number that a vector expects?
-fn agrees(kind: usize, n: [u32; 20]) -> bool {
-    match kind {
-        1 => read_agrees(n),
-        2 => write_agrees(n),
-        3 => cycles_agree(n),
-        4 => states_agree(n),
-        5 => fetch_agrees(n),
-        6 => image_agrees(n),
-        7 => changed_agrees(n),
-        _ => false,
+fn agrees(test: Test, n: [u32; 20]) -> bool {
+    match test {
+        Test::NoVector => false,
+        Test::Read => read_agrees(n),
+        Test::Write => write_agrees(n),
+        Test::Cycles => cycles_agree(n),
+        Test::States => states_agree(n),
+        Test::Fetch => fetch_agrees(n),
+        Test::Image => image_agrees(n),
+        Test::Changed => changed_agrees(n),
     }
 }
 
@@ -183,13 +252,12 @@ fn changed_agrees(n: [u32; 20]) -> bool {
 fn held(words: u32, memory: &[u16]) -> usize
     ensures { IsPrefixLen result memory.now }
 {
-    let n = words as usize;
-    if n < memory.len() { n } else { memory.len() }
+    memory.len().min(words as usize)
 }
 
 // A number of 64 bits from its halves.
 fn wide(low: u32, high: u32) -> u64 {
-    low as u64 + 4294967296 * (high as u64)
+    u64::from(low) + 4294967296 * u64::from(high)
 }
 
 // A number as a word of memory.
@@ -199,7 +267,7 @@ fn word(x: u32) -> u16 {
 
 // Are these the four words?
 fn are_words(m: [u16; 4], a: u32, b: u32, c: u32, d: u32) -> bool {
-    (m[0] as u32 == a) & (m[1] as u32 == b) & (m[2] as u32 == c) & (m[3] as u32 == d)
+    m.map(u32::from) == [a, b, c, d]
 }
 
 // A cache state: segment i's eight flags are bits 8i to 8i+7 of flags; the order is four
@@ -273,27 +341,12 @@ fn kind_number(kind: Kind) -> u32 {
 }
 
 // The 20 numbers of a line.
-fn numbers(line: &[u8]) -> [u32; 20] {
+fn numbers(line: &[u8; LINE]) -> [u32; 20] {
     let mut n = [0u32; 20];
-    let mut i = 0;
-    while i < 20 {
-        n[i] = number(line, i);
-        i += 1;
+    for (number, text) in n.iter_mut().zip(line.chunks(9)) {
+        *number = text.iter().take(8).fold(0, |v, b| with_digit(v, *b));
     }
     n
-}
-
-// Number i of a line.
-fn number(line: &[u8], i: usize) -> u32
-    requires { i < 20 }
-{
-    let mut v: u32 = 0;
-    let mut k = 0;
-    while k < 8 {
-        v = with_digit(v, byte_at(line, 9 * i + k));
-        k += 1;
-    }
-    v
 }
 
 // A number with one digit more.
@@ -306,96 +359,51 @@ fn digit(b: u8) -> u32
     ensures { result ≤ 15 }
 {
     match b {
-        48..=57 => b as u32 - 48,
-        65..=70 => b as u32 - 55,
+        b'0'..=b'9' => u32::from(b - b'0'),
+        b'A'..=b'F' => u32::from(b - b'A') + 10,
         _ => 0,
     }
 }
 
-// A byte of a line; 0 past its end.
-fn byte_at(line: &[u8], i: usize) -> u8 {
-    if i < line.len() { line[i] } else { 0 }
-}
-
-// Has the line its digits, spaces and end?
+// Has the line its digits, spaces and end, and no more?
 fn is_line(line: &[u8]) -> bool {
-    let mut i = 0;
-    while i < 180 {
-        if !is_placed(byte_at(line, i), i) {
-            return false;
-        }
-        i += 1;
-    }
-    true
+    line.len() == LINE && line.iter().enumerate().all(|(i, b)| is_placed(*b, i))
 }
 
 // May this byte stand at this place of a line?
 fn is_placed(b: u8, i: usize) -> bool {
-    if i == 179 {
-        return b == 10;
+    if i == LINE - 1 {
+        return b == b'\n';
     }
     if i % 9 == 8 {
-        return b == 32;
+        return b == b' ';
     }
-    match b {
-        48..=57 | 65..=70 => true,
-        _ => false,
+    matches!(b, b'0'..=b'9' | b'A'..=b'F')
+}
+
+// A line for each test, and for lines of none where there are any; then one for all. What cannot be
+// written is let go.
+fn report(rt: &impl Print, counts: &Counts) {
+    let tests = [
+        Test::Read,
+        Test::Write,
+        Test::Cycles,
+        Test::States,
+        Test::Fetch,
+        Test::Image,
+        Test::Changed,
+    ];
+    for test in tests {
+        report_test(rt, test, counts.of(test));
     }
-}
-
-// What cannot be written is let go.
-fn text(rt: &impl Print, text: &str) {
-    let _ = rt.print(text);
-}
-
-fn decimal(rt: &impl Print, n: u64) {
-    let _ = rt.print(n);
-}
-
-// A kind's name.
-fn name(rt: &impl Print, kind: usize) {
-    match kind {
-        1 => text(rt, "field read"),
-        2 => text(rt, "field write"),
-        3 => text(rt, "cycles"),
-        4 => text(rt, "MOVE states"),
-        5 => text(rt, "fetch"),
-        6 => text(rt, "image"),
-        7 => text(rt, "changed"),
-        8 => text(rt, "all"),
-        _ => text(rt, "no vector"),
+    let none = counts.of(Test::NoVector);
+    if 0 < none.vectors {
+        report_test(rt, Test::NoVector, none);
     }
+    let all = counts.all;
+    let _ = println!(rt; "all: {all}");
 }
 
-// The line of a difference.
-fn show_difference(rt: &impl Print, line: u64, kind: usize) {
-    text(rt, "differs at line ");
-    decimal(rt, line);
-    text(rt, ": ");
-    name(rt, kind);
-    text(rt, "\n");
-}
-
-// A line for each kind, and for lines of none where there are any; then one for all.
-fn report(rt: &impl Print, vectors: &[u64], differ: &[u64]) {
-    report_kind(rt, 1, vectors, differ);
-    report_kind(rt, 2, vectors, differ);
-    report_kind(rt, 3, vectors, differ);
-    report_kind(rt, 4, vectors, differ);
-    report_kind(rt, 5, vectors, differ);
-    report_kind(rt, 6, vectors, differ);
-    report_kind(rt, 7, vectors, differ);
-    if 0 < at(vectors, 0) {
-        report_kind(rt, 0, vectors, differ);
-    }
-    report_kind(rt, 8, vectors, differ);
-}
-
-fn report_kind(rt: &impl Print, kind: usize, vectors: &[u64], differ: &[u64]) {
-    name(rt, kind);
-    text(rt, ": ");
-    decimal(rt, at(vectors, kind));
-    text(rt, " vectors, ");
-    decimal(rt, at(differ, kind));
-    text(rt, " differ\n");
+fn report_test(rt: &impl Print, test: Test, count: Count) {
+    let _ = println!(rt; "{test}: {count}");
 }

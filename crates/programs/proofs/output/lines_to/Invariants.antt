@@ -1,9 +1,0 @@
--- Each turn leaves less to write.
-use Rattle.std.proofs.Common.{◌-◌, ◌≤◌, length}
-use Rattle.programs.proofs.output.lines_to.Given as goal
-
-abbrev pub invariant-loop-at : goal.invariant-loop-at
-invariant-loop-at l = l.at ≤ length l.bytes
-
-abbrev pub decreases-loop-at : goal.decreases-loop-at
-decreases-loop-at l = length l.bytes - l.at

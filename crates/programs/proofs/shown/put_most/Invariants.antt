@@ -1,9 +1,0 @@
--- The measure is the number of bytes left.
-use Rattle.std.proofs.Common.{◌-◌, ◌≤◌, length}
-use Rattle.programs.proofs.shown.put_most.Given as goal
-
-abbrev pub invariant-loop-i : goal.invariant-loop-i
-invariant-loop-i l = l.i ≤ length l.word
-
-abbrev pub decreases-loop-i : goal.decreases-loop-i
-decreases-loop-i l = length l.word - l.i
