@@ -55,54 +55,42 @@ pub fn register_of(x: u16, y: u16) -> u32
 fn half_of(c: u16) -> u32
     ensures { result ≡ half_of c }
 {
-    (c as u32 + ZERO) % HALF
+    (u32::from(c) + ZERO) % HALF
 }
 
 // ---- addresses and pitches
 
 // The linear address of an XY start.
+#[tactic(auto, unfolding(crate::specs::Address::xy_address))]
 pub fn xy_address(offset: u32, pitch: u32, psize: u16, x: u32, y: u32) -> u32
     ensures { result ≡ xy_address offset pitch psize x y }
 {
     let origin = Walk {
         start: offset,
         pitch,
-        step: psize as u32,
+        step: u32::from(psize),
     };
-    walk::address_at(origin, less(y, ZERO), less(x, ZERO))
+    walk::address_at(origin, y.saturating_sub(ZERO), x.saturating_sub(ZERO))
 }
 
-// Refusal 13 for an XY array or a lone XY pixel. A power of two, and no other number but 0, has
-// no bit in common with the number before it.
+// Refusal 13 for an XY array or a lone XY pixel.
+#[tactic(auto, using(crate::proofs::AddressLaws::bad_xy_pitch_by_bits))]
 pub fn bad_xy_pitch(pitch: u32) -> bool
     ensures { result ≡ bad_xy_pitch pitch }
 {
-    if pitch < 16 {
-        return true;
-    }
-    pitch & (pitch - 1) != 0
+    (pitch < 16) | !pitch.is_power_of_two()
 }
 
 // Refusal 13 for a linear pixel array.
 pub fn bad_linear_pitch(pitch: u32) -> bool
     ensures { result ≡ bad_linear_pitch pitch }
 {
-    pitch % 16 != 0
+    !pitch.is_multiple_of(16)
 }
 
 // Refusal 16: is a linear address no multiple of the pixel size?
 pub fn misaligned(psize: u16, address: u32) -> bool
     ensures { result ≡ misaligned psize address }
 {
-    if psize == 0 {
-        return address != 0;
-    }
-    address % (psize as u32) != 0
-}
-
-// a - b, or 0 if negative.
-fn less(a: u32, b: u32) -> u32
-    ensures { result ≡ a - b }
-{
-    if b < a { a - b } else { 0 }
+    !address.is_multiple_of(u32::from(psize))
 }

@@ -8,21 +8,14 @@ ghost use Rattle.corner.specs.Corner.{walked, turned, corner_of, from_corner};
 use walk::Walk;
 
 // An array's walk in the chosen order, from its upper left start.
+#[tactic(auto, unfolding(crate::specs::Corner::from_corner))]
 pub fn from_corner(pbh: bool, pbv: bool, cols: u16, rows: u16, w: Walk) -> Walk
     ensures { result ≡ from_corner pbh pbv cols rows w }
 {
     let row = corner_of(pbv, rows);
     let column = corner_of(pbh, cols);
     let start = walk::address_at(w, row, column);
-    turned(
-        pbh,
-        pbv,
-        Walk {
-            start,
-            pitch: w.pitch,
-            step: w.step,
-        },
-    )
+    turned(pbh, pbv, Walk { start, ..w })
 }
 
 // The same from a start that is the chosen corner's pixel itself.
@@ -31,11 +24,7 @@ pub fn turned(pbh: bool, pbv: bool, w: Walk) -> Walk
 {
     let pitch = walked(pbv, w.pitch);
     let step = walked(pbh, w.step);
-    Walk {
-        start: w.start,
-        pitch,
-        step,
-    }
+    Walk { pitch, step, ..w }
 }
 
 // A distance as it is walked.
@@ -43,9 +32,10 @@ fn walked(falls: bool, distance: u32) -> u32
     ensures { result ≡ walked falls distance }
 {
     if falls {
-        return std::num::wrapping_sub_u32(0, distance);
+        distance.wrapping_neg()
+    } else {
+        distance
     }
-    distance
 }
 
 // The corner's row or column.
@@ -53,7 +43,8 @@ fn corner_of(last: bool, n: u16) -> u32
     ensures { result ≡ corner_of last n }
 {
     if last {
-        return if n == 0 { 0 } else { (n - 1) as u32 };
+        u32::from(n.saturating_sub(1))
+    } else {
+        0
     }
-    0
 }

@@ -84,11 +84,7 @@ module _ (limit : ℕ) (w : Walk) (cols rows : ℕ) (most : limit ≤ 2 ^ 24) (p
 
 -- ---- a walk that leaves memory
 module _ (words : ℕ) (w : Walk) (cols rows : ℕ) where
-  pub leaves_memory-of-no_memory : no_memory words ≡ true → leaves_memory words w cols rows ≡ false
-  unfolding leaves_memory
-  leaves_memory-of-no_memory e = rw e
-
-  pub leaves_memory-of-memory : no_memory words ≡ false
+  leaves_memory-of-memory : no_memory words ≡ false
       → leaves_memory words w cols rows ≡ reaches (address_of w cols) (16 * words) (cols * rows)
   unfolding leaves_memory
   leaves_memory-of-memory e = rw e

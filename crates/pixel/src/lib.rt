@@ -9,7 +9,7 @@ ghost use Rattle.pixel.specs.Pixel.{bad_pixel_size, top_of, pixel_of};
 pub fn bad_pixel_size(psize: u16) -> bool
     ensures { result ≡ bad_pixel_size psize }
 {
-    !((psize == 1) | ((psize == 2) | ((psize == 4) | ((psize == 8) | (psize == 16)))))
+    !matches!(psize, 1 | 2 | 4 | 8 | 16)
 }
 
 // The greatest pixel of psize bits.
@@ -24,6 +24,7 @@ pub fn top_of(psize: u16) -> u16
 }
 
 // The pixel of a word at an address.
+#[tactic(auto, unfolding(crate::specs::Pixel::pixel_of))]
 pub fn pixel_of(top: u16, word: u16, address: u32) -> u16
     ensures { result ≡ pixel_of top word address }
 {

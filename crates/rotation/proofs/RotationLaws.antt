@@ -1,38 +1,27 @@
--- log2 of a power of two, and a high half rotated. No contract cites this file. Assumes nothing.
-use mathlib.Core.Path.{◌≡◌, sym, ap, ◌∙◌}
-use Prim.Native.Nat.{ℕ, suc, ◌+◌, ◌-◌, ◌*◌, ◌/◌, ◌%◌, ◌^◌, ◌<◌}
-use native.Mathlib.Nat.{mul_assoc, pow-suc}
-use native.Mathlib.Decide.{dec_lt}
-use native.Mathlib.Omega.{arith}
-use lib.Bits.{or_zero_l, or_zero_r}
-use lib.Count.{count_leading_zeros, leading_unique}
-use lib.Pow.{pow-lt, pow_mono, pow-add, shl_lt}
-use Rattle.rotation.specs.Rotation.{log2, come_round, rotated_left}
+-- Rotations in 32 bits, by bits that come round and as the library has them. No contract cites this file. Assumes nothing.
+use Rattle.std.proofs.Common.{◌≡◌, ℕ, zero, suc, ◌+◌, ◌-◌, ◌*◌, ◌/◌, ◌%◌, ◌^◌, ◌<◌, sym, ap, ◌∙◌, arith, pow_pos, pow-add, bit_or, w32}
+use Rattle.std.proofs.Math.Nat.{mul-div_cancel, div-div-eq-div-mul}
+use Rattle.std.specs.Int.Bits.{or_self}
+use lib.Bits.{or_zero_r}
+use Rattle.std.specs.Int.{rotate_left}
+use Rattle.rotation.specs.Rotation.{come_round, rotated_left}
 
--- a number that passes bit 31 whole is as one that stays below it
-come_round-whole : (n : ℕ) → n < 2 ^ 32 → come_round (n * 2 ^ 32) ≡ come_round n
-come_round-whole n h =
-    let low : n * 2 ^ 32 % 2 ^ 32 ≡ 0 = omega arith in
-    let high : n * 2 ^ 32 / 2 ^ 32 ≡ n = omega arith in
-    let own : n % 2 ^ 32 ≡ n = omega arith in
-    let none : n / 2 ^ 32 ≡ 0 = omega arith in
-    rw (low, high, own, none) (or_zero_l n ∙ sym (or_zero_r n))
+-- the bits past bit 31 are those that a shift right leaves
+past : (n p : ℕ) → p < 32 → n * 2 ^ p / 2 ^ 32 ≡ n / 2 ^ (32 - p)
+past n p h =
+    let e : p + (32 - p) ≡ 32 = omega arith in
+    ap (λ (k : ℕ). n * 2 ^ p / 2 ^ k) (sym e) ∙ ap (λ (x : ℕ). n * 2 ^ p / x) (pow-add 2 p (32 - p))
+    ∙ sym (div-div-eq-div-mul (n * 2 ^ p) (2 ^ p) (2 ^ (32 - p))) ∙ ap (λ (x : ℕ). x / 2 ^ (32 - p)) (mul-div_cancel n (pow_pos p))
 
--- so many places up, by powers
-raised : (y i j : ℕ) → y * 2 ^ i * 2 ^ j ≡ y * 2 ^ (i + j)
-raised y i j = mul_assoc y (2 ^ i) (2 ^ j) ∙ ap (λ (x : ℕ). y * x) (sym (pow-add 2 i j))
-
--- a high half rotated by 16 + k: the half itself, k places up, with what passes bit 31 come round
-pub rotated_left-half : (y k : ℕ) → y < 2 ^ 16 → k < 32 → rotated_left (16 + k) (y * 2 ^ 16) ≡ come_round (y * 2 ^ k)
-rotated_left-half y k hy hk =
-    elim (dec_lt k 16) [
-      | yes h ↦
-          let places : (16 + k) % 32 ≡ 16 + k = omega arith in
-          let up : 16 + (16 + k) ≡ k + 32 = omega arith in
-          rw places (ap come_round (raised y 16 (16 + k) ∙ ap (λ (x : ℕ). y * 2 ^ x) up ∙ sym (raised y k 32))
-          ∙ come_round-whole (y * 2 ^ k) (omega (arith, shl_lt 16 k hy, pow_mono {i = 16 + k} {j = 32} (omega arith))))
-      | no h ↦
-          let places : (16 + k) % 32 ≡ k - 16 = omega arith in
-          let up : 16 + (k - 16) ≡ k = omega arith in
-          rw places (ap come_round (raised y 16 (k - 16) ∙ ap (λ (x : ℕ). y * 2 ^ x) up))
-    ]
+pub rotate_left-rotated_left : (places n : ℕ) → n < 2 ^ 32 → rotate_left w32 n places ≡ rotated_left places n
+rotate_left-rotated_left places n h = go (places % 32) (omega arith)
+  where
+    go : (p : ℕ) → p < 32 → bit_or (n * 2 ^ p % 2 ^ 32) (n / 2 ^ ((32 - p) % 32)) ≡ come_round (n * 2 ^ p)
+    go zero l =
+        let whole : n * 1 % 2 ^ 32 ≡ n = omega arith in
+        let all : n / 1 ≡ n = omega arith in
+        let none : n * 1 / 2 ^ 32 ≡ 0 = omega arith in
+        rw (whole, all, none) (or_self n ∙ sym (or_zero_r n))
+    go (suc p) l =
+        let e : (32 - suc p) % 32 ≡ 32 - suc p = omega arith in
+        rw e (ap (bit_or (n * 2 ^ suc p % 2 ^ 32)) (sym (past n (suc p) l)))

@@ -23,6 +23,7 @@ pub struct Settings {
 }
 
 // The settings that the first thirteen numbers are; one past the end is 0.
+#[tactic(auto, unfolding(crate::specs::Settings::settings_of))]
 pub fn settings_of(numbers: &[u64]) -> Settings
     ensures { result ≡ settings_of numbers.now }
 {
@@ -50,7 +51,8 @@ fn word_at(numbers: &[u64], at: usize) -> u32
     (number_at(numbers, at) % (1 << 32)) as u32
 }
 
-// The low 16 bits of a number.
+// The low 16 bits of a number. No twin of word_at to be one generic with it: the types differ, and
+// a trait with an impl for each would be no plainer.
 fn half_at(numbers: &[u64], at: usize) -> u16
     ensures { result ≡ get_or numbers.now at 0 % 2 ^ 16 }
 {
@@ -61,5 +63,5 @@ fn half_at(numbers: &[u64], at: usize) -> u16
 fn number_at(numbers: &[u64], at: usize) -> u64
     ensures { result ≡ get_or numbers.now at 0 }
 {
-    if at < numbers.len() { numbers[at] } else { 0 }
+    numbers.get(at).copied().unwrap_or(0)
 }

@@ -34,11 +34,6 @@ module _ (w : Walk) where
   unfolding address_at
   address_at-start h = omega arith
 
-  -- products may be cut to 32 bits first
-  pub address_at-parts : (r c : ℕ) → ((w.start + r * w.pitch % 2 ^ 32) % 2 ^ 32 + c * w.step % 2 ^ 32) % 2 ^ 32 ≡ address_at w r c
-  unfolding address_at
-  address_at-parts r c = omega arith
-
   -- the next row, and the next column
   pub address_at-down : (r c : ℕ) → (address_at w r c + w.pitch) % 2 ^ 32 ≡ address_at w (r + 1) c
   unfolding address_at

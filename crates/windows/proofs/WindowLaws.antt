@@ -1,11 +1,11 @@
--- Windows: what W means, case by case; what is kept; the common rectangle is the intersection. No contract cites this file.
+-- Windows: what W means; what is kept; the common rectangle is the intersection. No contract cites this file.
 -- Assumes nothing.
 use mathlib.Core.Path.{◌≡◌, refl, sym, ap, subst, ◌∙◌}
 use mathlib.Core.Bool.{Bool, true, false, cond, not, and-eq-true_iff}
 use mathlib.Core.Logic.{◌⊎◌, inl, inr, ⊎_elim}
 use Prim.Native.Nat.{ℕ, suc, ◌+◌, ◌-◌, ◌≤◌, ◌<◌, max}
 use native.Mathlib.Omega.{arith}
-use borrow.Author.Tests.{eq-eqb, ne_eqb, eqb-true, leb-true, le-leb, not-true}
+use borrow.Author.Tests.{ne_eqb, eqb-true, leb-true, le-leb, not-true}
 use lib.Dec.{eqb, leb}
 use Rattle.walk.proofs.Arithmetic.{positive-left, positive-right}
 use Rattle.windows.specs.declared.Rectangle.{Rectangle}
@@ -14,34 +14,19 @@ use Rattle.windows.specs.declared.Clipped.{Clipped}
 use Rattle.windows.specs.Window.{leading, shared, all_in, empty, inside, common, meet, nothing, unclipped, common_part, clipped, v_under}
 use Rattle.windows.specs.Kept.{InRectangle, Seen, kept}
 
--- ---- what W means, case by case
-module _ (w : ℕ) (r : Rectangle) (win : Window) where
-  pub clipped-zero : w ≡ 0 → clipped w r win ≡ unclipped r
+-- ---- what W 1 to 3 mean for a rectangle that is not empty
+module _ (r : Rectangle) (win : Window) (filled : empty r ≡ false) where
+  pub clipped-one : clipped 1 r win ≡ nothing (meet r win)
   unfolding clipped
-  clipped-zero h = rw (eq-eqb w 0 h)
+  clipped-one = rw filled
 
-  module _ (nonzero : w ≡ 0 → ⊥) where
-    pub clipped-empty : empty r ≡ true → clipped w r win ≡ nothing false
-    unfolding clipped
-    clipped-empty e = rw (ne_eqb w 0 nonzero, e)
+  pub clipped-two-outside : inside r win ≡ false → clipped 2 r win ≡ nothing true
+  unfolding clipped
+  clipped-two-outside i = rw (filled, i)
 
-    module _ (filled : empty r ≡ false) where
-      pub clipped-one : w ≡ 1 → clipped w r win ≡ nothing (meet r win)
-      unfolding clipped
-      clipped-one h = rw (ne_eqb w 0 nonzero, filled, eq-eqb w 1 h)
-
-      module _ (not-one : w ≡ 1 → ⊥) where
-        pub clipped-two-inside : w ≡ 2 → inside r win ≡ true → clipped w r win ≡ unclipped r
-        unfolding clipped
-        clipped-two-inside h i = rw (ne_eqb w 0 nonzero, filled, ne_eqb w 1 not-one, eq-eqb w 2 h, i)
-
-        pub clipped-two-outside : w ≡ 2 → inside r win ≡ false → clipped w r win ≡ nothing true
-        unfolding clipped
-        clipped-two-outside h i = rw (ne_eqb w 0 nonzero, filled, ne_eqb w 1 not-one, eq-eqb w 2 h, i)
-
-        pub clipped-three : (w ≡ 2 → ⊥) → clipped w r win ≡ common_part r win
-        unfolding clipped
-        clipped-three h = rw (ne_eqb w 0 nonzero, filled, ne_eqb w 1 not-one, ne_eqb w 2 h)
+  clipped-three : clipped 3 r win ≡ common_part r win
+  unfolding clipped
+  clipped-three = rw filled
 
 -- ---- V: worked out anew, or as given
 pub v_under-twice : (w : ℕ) (r : Rectangle) (win : Window) (v : Bool) → v_under w r win (v_under w r win v) ≡ v_under w r win v
@@ -194,7 +179,7 @@ seen-of-kept w r win nonzero a b =
 -- under W 3 all pixels of the rectangle that lie in the window are kept
 pub kept-pixel : (r : Rectangle) (win : Window) (a b : ℕ) → InRectangle r a b → Seen win a b → InRectangle (kept r (clipped 3 r win)) a b
 kept-pixel r win a b p s =
-    let three = clipped-three 3 r win (λ z. omega arith) (filled-of-pixel r a b p) (λ z. omega arith) (λ z. omega arith) in
+    let three = clipped-three r win (filled-of-pixel r a b p) in
     subst (λ (k : Rectangle). InRectangle k a b) (sym (ap (kept r) three ∙ kept-part r win)) (common-pixel r win a b p s)
 
 -- ---- the rectangles meet exactly where they have a pixel in common

@@ -2,10 +2,11 @@
 #![tactic(auto)]
 
 ghost use Rattle.std.specs.Prelude.{◌≡◌, ◌-◌, max, min};
-ghost use Rattle.address.specs.Coordinate.{negative};
 ghost use Rattle.windows.specs.Window.{window_of, bad_window, bad_windowing, shared, all_in};
 ghost use Rattle.windows.specs.Window.{empty, inside, common, meet};
 ghost use Rattle.windows.specs.Window.{nothing, unclipped, common_part, clipped, v_under};
+
+use address::negative;
 
 // A rectangle of pixels: its upper left coordinates, each held as itself plus 2^15, its columns and
 // its rows.
@@ -54,15 +55,8 @@ pub fn bad_window(w: Window) -> bool
     ensures { result ≡ bad_window w }
 {
     let beyond = (w.right < w.left) | (w.bottom < w.top);
-    let end = negative(w.right) | (negative(w.bottom) | beyond);
-    negative(w.left) | (negative(w.top) | end)
-}
-
-// Is a coordinate below 0?
-fn negative(c: u16) -> bool
-    ensures { result ≡ negative c }
-{
-    address::negative(c as u32)
+    let end = negative(w.right.into()) | (negative(w.bottom.into()) | beyond);
+    negative(w.left.into()) | (negative(w.top.into()) | end)
 }
 
 // Is the window used, and bad?
@@ -74,18 +68,20 @@ pub fn bad_windowing(w: u16, window: Window) -> bool
 }
 
 // The common rectangle.
+#[tactic(auto, unfolding(crate::specs::Window::common))]
 pub fn common_of(r: Rectangle, w: Window) -> Rectangle
     ensures { result ≡ common r w }
 {
     Rectangle {
-        x: greater(r.x, w.left),
-        y: greater(r.y, w.top),
+        x: r.x.max(w.left),
+        y: r.y.max(w.top),
         cols: shared_by(r.x, r.cols, w.left, w.right),
         rows: shared_by(r.y, r.rows, w.top, w.bottom),
     }
 }
 
 // What is drawn of a rectangle under W.
+#[tactic(auto, unfolding(crate::specs::Window::clipped))]
 pub fn clip(w: u16, r: Rectangle, window: Window) -> Clipped
     ensures { result ≡ clipped w r window }
 {
@@ -108,6 +104,7 @@ pub fn clip(w: u16, r: Rectangle, window: Window) -> Clipped
 }
 
 // V after a call with an XY destination, by V as given.
+#[tactic(auto, unfolding(crate::specs::Window::v_under))]
 pub fn v_under(w: u16, r: Rectangle, window: Window, v: bool) -> bool
     ensures { result ≡ v_under w r window v }
 {
@@ -123,44 +120,20 @@ pub fn v_under(w: u16, r: Rectangle, window: Window, v: bool) -> bool
     !is_inside(r, window)
 }
 
-// The greater of two numbers.
-fn greater(a: u16, b: u16) -> u16
-    ensures { result ≡ max a b }
-{
-    if a < b { b } else { a }
-}
-
-// a - b, or 0 if negative.
-fn less(a: u16, b: u16) -> u16
-    ensures { result ≡ a - b }
-{
-    if b < a { a - b } else { 0 }
-}
-
-// The lesser of two numbers.
-fn lesser(a: u32, b: u32) -> u32
-    ensures { result ≡ min a b }
-{
-    if a < b { a } else { b }
-}
-
 // How many of n coordinates from c on are in a window from lo to hi.
 fn shared_by(c: u16, n: u16, lo: u16, hi: u16) -> u16
     ensures { result ≡ shared c n lo hi }
 {
-    let from = greater(c, lo) as u32;
-    let end = lesser(c as u32 + n as u32, hi as u32 + 1);
-    if from < end {
-        return (end - from) as u16;
-    }
-    0
+    let from = u32::from(c.max(lo));
+    let end = (u32::from(c) + u32::from(n)).min(u32::from(hi) + 1);
+    end.saturating_sub(from) as u16
 }
 
 // Are all of n coordinates from c on in a window from lo to hi?
 fn all_in(c: u16, n: u16, lo: u16, hi: u16) -> bool
     ensures { result ≡ all_in c n lo hi }
 {
-    (lo <= c) & (c as u32 + n as u32 <= hi as u32 + 1)
+    (lo <= c) & (u32::from(c) + u32::from(n) <= u32::from(hi) + 1)
 }
 
 // Is DX or DY 0?
@@ -216,8 +189,8 @@ fn common_part(r: Rectangle, w: Window) -> Clipped
 {
     let kept = common_of(r, w);
     Clipped {
-        left: less(w.left, r.x),
-        above: less(w.top, r.y),
+        left: w.left.saturating_sub(r.x),
+        above: w.top.saturating_sub(r.y),
         cols: kept.cols,
         rows: kept.rows,
         request: false,
