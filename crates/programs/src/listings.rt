@@ -111,6 +111,6 @@ fn run_some(
     let mut space = [0u8; LINE * BATCH as usize];
     match runner.lines(range, &mut space) {
         Ok(n) => sweep.lines(to, &space[..n]),
-        Err(answer) => Err(sweep.not_listed(range.first, answer as u64)),
+        Err(r) => Err(sweep.not_listed(range.first, u64::from(u32::from(r)))),
     }
 }
