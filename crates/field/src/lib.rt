@@ -35,8 +35,12 @@ pub fn write(memory: &mut [u16], address: u32, size: u32, value: u32) -> Result<
 {
     field_refusal::refusal_of(memory.len(), address, size)?;
     let bits = field_refusal::meant(size);
-    let field = Field::of(memory.len(), u64::from(address), u64::from(bits));
-    field.write(memory, u64::from(value));
+    write_bits(
+        memory,
+        u64::from(address),
+        u64::from(bits),
+        u64::from(value),
+    );
     Ok(())
 }
 
@@ -151,6 +155,42 @@ impl Field {
         }
         memory[self.at + 2] = (v / WORDS / WORDS % WORDS) as u16;
     }
+}
+
+// Writes the low bits of a number to a field, and no other bit. The words are those of `Field::of`,
+// but each number of words has a call of its own, for which the compiler makes code of its own: one
+// call for all of them writes at three quarters of the speed.
+fn write_bits(memory: &mut [u16], address: u64, size: u64, x: u64)
+    requires { (0 < size) × (size ≤ 32) × (address + size ≤ 16 * length memory.old) }
+    ensures { memory.new ≡ with_field memory.old address size x }
+{
+    let s = address % 16;
+    let at = (address / 16) as usize;
+    if 32 < s + size {
+        let three = Field {
+            at,
+            count: 3,
+            s,
+            size,
+        };
+        return three.write(memory, x);
+    }
+    if memory.len() - at < 2 {
+        let one = Field {
+            at,
+            count: 1,
+            s,
+            size,
+        };
+        return one.write(memory, x);
+    }
+    let two = Field {
+        at,
+        count: 2,
+        s,
+        size,
+    };
+    two.write(memory, x)
 }
 
 // A number with the n low bits of x in the place of its bits s to s + n - 1.

@@ -28,7 +28,7 @@ pub fn refusal_of(words: usize, address: u32, size: u32) -> Result<(), Refused>
 pub fn bad_size(size: u32) -> bool
     ensures { result ≡ bad_size size }
 {
-    (size == 0) | (32 < size)
+    !(1..=32).contains(&size)
 }
 
 // How many bits a size means.
