@@ -2,6 +2,7 @@
 #![tactic(auto)]
 
 ghost use Rattle.std.specs.Prelude.{◌≡◌, ◌+◌, ◌<◌, ◌≤◌, ◌^◌, length};
+ghost use Rattle.answers.specs.Answer.{refusal_number};
 ghost use Rattle.text.specs.Text.{fields_of};
 ghost use Rattle.names.specs.Names.{name_count};
 ghost use Rattle.points.specs.Axes.{most_axes, most_values};
@@ -14,6 +15,9 @@ ghost use Rattle.plan.specs.Cursor.{line_at, skipped_at, PositionIn, NextLine, r
 ghost use Rattle.plan.specs.State.{nothing_read, shut, going};
 ghost use Rattle.plan.specs.State.{after_memory, after_draw, after_axis, after_end, held_after};
 ghost use Rattle.plan.specs.State.{StartsAt, LinesRead, LineRead, PlanRead};
+
+use answers::Refused;
+
 // A table with room for the axes of every plan has so many numbers.
 pub const ROOM: usize = 528;
 
@@ -40,10 +44,10 @@ pub fn read(text: &[u8], table: &mut [u64]) -> Plan
         (result ≡ plan_of x (length t)) × (table.new ≡ table_after x t) }
 {
     if table.len() < ROOM {
-        return refused(9, 0);
+        return refused(Refused::Arguments, 0);
     }
     if TEXT < text.len() {
-        return refused(20, 1);
+        return refused(Refused::Form, 1);
     }
     let s = read_lines(text);
     let plan = s.plan;
@@ -232,7 +236,7 @@ fn with_memory(s: State, words: u64, line: u64) -> State
     ensures { result ≡ after_memory s words line }
 {
     if words == 0 {
-        return shut(s, refused(20, line));
+        return shut(s, refused(Refused::Form, line));
     }
     going(s, accepted(words, names::DRAWING_COUNT, 0, 1))
 }
@@ -243,7 +247,7 @@ fn with_draw(s: State, draw: u64, line: u64) -> State
 {
     let plan = s.plan;
     if names::DRAWING_COUNT <= draw {
-        return shut(s, refused(20, line));
+        return shut(s, refused(Refused::Form, line));
     }
     going(s, accepted(plan.words, draw, 0, 1))
 }
@@ -257,7 +261,7 @@ fn with_axis(s: State, line: &[u8], c: Cursor) -> State
     let seen = s.seen;
     match axis::axis_of(line, seen, plan.axes) {
         Ok(a) => with_values(s, a.name, a.count, c.at),
-        Err(r) => shut(s, refused(u32::from(r), c.line)),
+        Err(r) => shut(s, refused(r, c.line)),
     }
 }
 
@@ -290,7 +294,7 @@ fn at_end(s: State, left: bool, line: u64) -> State
 {
     let plan = s.plan;
     if left | (plan.draw == names::DRAWING_COUNT) {
-        return shut(s, refused(20, line));
+        return shut(s, refused(Refused::Form, line));
     }
     shut(s, plan)
 }
@@ -299,27 +303,21 @@ fn at_end(s: State, left: bool, line: u64) -> State
 fn shut(s: State, plan: Plan) -> State
     ensures { result ≡ shut s plan }
 {
-    let seen = s.seen;
-    let starts = s.starts;
     State {
         wanted: false,
         plan,
-        seen,
-        starts,
+        ..s
     }
 }
 
-// With this plan, and another line is wanted.
+// With this plan, and another line is wanted. (Two names for one update: plainer than a flag.)
 fn going(s: State, plan: Plan) -> State
     ensures { result ≡ going s plan }
 {
-    let seen = s.seen;
-    let starts = s.starts;
     State {
         wanted: true,
         plan,
-        seen,
-        starts,
+        ..s
     }
 }
 
@@ -338,11 +336,11 @@ fn accepted(words: u64, draw: u64, axes: u64, points: u64) -> Plan
 }
 
 // A refused plan.
-fn refused(answer: u32, line: u64) -> Plan
-    ensures { result ≡ refused_plan answer line }
+fn refused(r: Refused, line: u64) -> Plan
+    ensures { result ≡ refused_plan (refusal_number r) line }
 {
     Plan {
-        answer,
+        answer: u32::from(r),
         line,
         words: 0,
         draw: 0,
