@@ -21,11 +21,5 @@ pub fn bad_shape(words: usize, others: usize, draw: u64, count: u64, size: usize
 pub fn ends_past(points: u64, first: u64, count: u64) -> bool
     ensures { result ≡ ends_past points first count }
 {
-    if count == 0 {
-        return false;
-    }
-    if points < first {
-        return true;
-    }
-    points - first < count
+    points.saturating_sub(first) < count
 }

@@ -15,11 +15,7 @@ use run::Ran;
 fn later(line: &[u8]) -> &[u8]
     ensures { let l = line.now in result.now ≡ drop (third_at l) l }
 {
-    let at = tabs::third_at(line);
-    if line.len() < at {
-        return &line[0..0];
-    }
-    &line[at..]
+    line.get(tabs::third_at(line)..).unwrap_or(&[])
 }
 
 // The number in the place of `changed`: that of the fifth field, 0 where there is none.

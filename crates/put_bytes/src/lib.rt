@@ -66,10 +66,7 @@ pub fn bytes(out: &mut [u8], at: usize, from: &[u8]) -> usize
 fn has_room(size: usize, at: usize, count: usize) -> bool
     ensures { result ≡ leb (at + count) size }
 {
-    if size < at {
-        return false;
-    }
-    count <= size - at
+    at <= size && count <= size - at
 }
 
 // Puts bytes that fit.
