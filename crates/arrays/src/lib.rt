@@ -2,6 +2,7 @@
 #![tactic(auto)]
 
 ghost use Rattle.std.specs.Prelude.{◌≡◌};
+ghost use Rattle.address.specs.Address.{xy_address};
 ghost use Rattle.arrays.specs.Array.{rectangle_of, clipped_array, v_after, start_x, start_y};
 ghost use Rattle.arrays.specs.Array.{dest_start, step_of, linear_source, src_start};
 ghost use Rattle.arrays.specs.Array.{chosen_walk, dest_walk, src_walk, drawing_of};
@@ -26,6 +27,7 @@ pub fn rectangle_of(s: Settings) -> Rectangle
 }
 
 // What is drawn, with the request.
+#[tactic(auto, unfolding(crate::specs::Array::clipped_array))]
 pub fn clipped_array(op: Operation, s: Settings) -> Clipped
     ensures { result ≡ clipped_array op s }
 {
@@ -44,6 +46,7 @@ pub fn clipped_array(op: Operation, s: Settings) -> Clipped
 }
 
 // V after the call.
+#[tactic(auto, unfolding(crate::specs::Array::v_after))]
 pub fn v_after(op: Operation, s: Settings, v: bool) -> bool
     ensures { result ≡ v_after op s v }
 {
@@ -59,38 +62,43 @@ pub fn v_after(op: Operation, s: Settings, v: bool) -> bool
 pub fn start_x(xy: u32, c: Clipped) -> u32
     ensures { result ≡ start_x xy c }
 {
-    address::x_of(xy) as u32 + c.left as u32
+    u32::from(address::x_of(xy)) + u32::from(c.left)
 }
 
 // Y of an XY start after clipping.
 pub fn start_y(xy: u32, c: Clipped) -> u32
     ensures { result ≡ start_y xy c }
 {
-    address::y_of(xy) as u32 + c.above as u32
+    u32::from(address::y_of(xy)) + u32::from(c.above)
+}
+
+// The linear address of an XY start after clipping.
+fn xy_start(s: Settings, xy: u32, pitch: u32, c: Clipped) -> u32
+    ensures { result ≡ xy_address s.offset pitch s.psize (start_x xy c) (start_y xy c) }
+{
+    address::xy_address(s.offset, pitch, s.psize, start_x(xy, c), start_y(xy, c))
 }
 
 // Where what is drawn of the destination starts.
+#[tactic(auto, unfolding(crate::specs::Array::dest_start))]
 fn dest_start(op: Operation, s: Settings, c: Clipped) -> u32
     ensures { result ≡ dest_start op s c }
 {
     if operation::to_xy(op) {
-        let x = start_x(s.daddr, c);
-        let y = start_y(s.daddr, c);
-        return address::xy_address(s.offset, s.dptch, s.psize, x, y);
+        return xy_start(s, s.daddr, s.dptch, c);
     }
     s.daddr
 }
 
 // Where its source starts.
+#[tactic(auto, unfolding(crate::specs::Array::src_start))]
 fn src_start(op: Operation, s: Settings, c: Clipped) -> u32
     ensures { result ≡ src_start op s c }
 {
     if operation::from_xy(op) {
-        let x = start_x(s.saddr, c);
-        let y = start_y(s.saddr, c);
-        return address::xy_address(s.offset, s.sptch, s.psize, x, y);
+        return xy_start(s, s.saddr, s.sptch, c);
     }
-    walk::address_at(linear_source(op, s), c.above as u32, c.left as u32)
+    walk::address_at(linear_source(op, s), u32::from(c.above), u32::from(c.left))
 }
 
 // The walk of a linear source, before clipping.
@@ -111,7 +119,7 @@ fn step_of(source: Source, psize: u16) -> u32
 {
     match source {
         Source::Color => 0,
-        Source::Pixels => psize as u32,
+        Source::Pixels => u32::from(psize),
         Source::Bits => 1,
     }
 }
@@ -129,6 +137,7 @@ fn chosen_walk(op: Operation, s: Settings, c: Clipped, w: Walk) -> Walk
 }
 
 // The same from any corner: PBH and PBV count for PIXBLTs of pixels.
+#[tactic(auto, unfolding(crate::specs::Array::chosen_walk))]
 fn turned_walk(op: Operation, s: Settings, c: Clipped, w: Walk) -> Walk
     ensures { result ≡ chosen_walk op s c w }
 {
@@ -142,6 +151,7 @@ fn turned_walk(op: Operation, s: Settings, c: Clipped, w: Walk) -> Walk
 }
 
 // The destination's walk, as the drawing has it.
+#[tactic(auto, unfolding(crate::specs::Array::drawing_of))]
 pub fn dest_of(op: Operation, s: Settings, c: Clipped) -> Walk
     ensures { result ≡ (drawing_of op s c).dest }
 {
@@ -156,7 +166,7 @@ fn dest_walk(op: Operation, s: Settings, c: Clipped) -> Walk
     Walk {
         start,
         pitch: s.dptch,
-        step: s.psize as u32,
+        step: u32::from(s.psize),
     }
 }
 
@@ -174,6 +184,7 @@ fn src_walk(op: Operation, s: Settings, c: Clipped) -> Walk
 }
 
 // The drawing.
+#[tactic(auto, unfolding(crate::specs::Array::drawing_of))]
 pub fn drawing_of(op: Operation, s: Settings, c: Clipped) -> Drawing
     ensures { result ≡ drawing_of op s c }
 {

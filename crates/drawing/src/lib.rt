@@ -73,7 +73,7 @@ fn saddr_after(op: Operation, s: Settings, d: Drawing, place: u64) -> u32
 {
     let copy = operation::copies(operation::source_of(op));
     if done_some(d, place) & copy {
-        return walk::address_at(d.src, d.rows as u32, 0);
+        return walk::address_at(d.src, u32::from(d.rows), 0);
     }
     s.saddr
 }
@@ -83,7 +83,7 @@ fn daddr_after(s: Settings, d: Drawing, place: u64) -> u32
     ensures { result ≡ cond (done_some d place) (row_after d.dest d.rows) s.daddr }
 {
     if done_some(d, place) {
-        return walk::address_at(d.dest, d.rows as u32, 0);
+        return walk::address_at(d.dest, u32::from(d.rows), 0);
     }
     s.daddr
 }
@@ -104,6 +104,7 @@ fn answer_at(d: Drawing, place: u64) -> u32
 }
 
 // A call that is not refused, at its new place.
+#[tactic(auto, unfolding(crate::specs::Draw::outcome_at))]
 fn outcome_at(
     op: Operation,
     s: Settings,
@@ -117,23 +118,13 @@ fn outcome_at(
 {
     let answer = answer_at(d, place);
     let saddr = saddr_after(op, s, d, place);
-    let daddr = daddr_after(s, d, place);
-    if (control::windowing(s.control) == 1) & c.request {
+    let (daddr, dydx) = if (control::windowing(s.control) == 1) & c.request {
         let r = common_rectangle(s);
-        let found = address::register_of(r.x, r.y);
-        let size = (r.rows as u32) * address::HALF + r.cols as u32;
-        return Outcome {
-            answer,
-            place,
-            visited,
-            v,
-            request: c.request,
-            saddr,
-            daddr: found,
-            dydx: size,
-            settings: s,
-        };
-    }
+        let size = u32::from(r.rows) * address::HALF + u32::from(r.cols);
+        (address::register_of(r.x, r.y), size)
+    } else {
+        (daddr_after(s, d, place), s.dydx)
+    };
     Outcome {
         answer,
         place,
@@ -142,7 +133,7 @@ fn outcome_at(
         request: c.request,
         saddr,
         daddr,
-        dydx: s.dydx,
+        dydx,
         settings: s,
     }
 }
@@ -210,7 +201,8 @@ pub fn outcome_for(
     call(&mut none, op, s, place, v, budget, words, true)
 }
 
-// The refusal of a call over so many words of memory: its number, or 0.
+// The refusal of a call over so many words of memory: its number, or 0. By a dry run: so the parts
+// of `call` have one caller.
 pub fn refusal_for(op: Operation, s: Settings, place: u64, words: usize) -> u32
     ensures { result ≡ refusal op s place words }
 {
