@@ -37,7 +37,8 @@ impl Form {
     }
 }
 
-// Writes the lines of the points of a range in a form, some at a time.
+// Writes the lines of the points of a range in a form, some at a time: in steps of BATCH, the last
+// one shorter (`step_by` does not give where a step ends).
 pub fn write_all(
     sweep: Program<'_>,
     form: Form,

@@ -72,7 +72,8 @@ fn read_text(
 }
 
 // Reads until the buffer is full, the input ends or a read fails: how many bytes it put at the
-// buffer's start, and whether all went well.
+// buffer's start, and whether all went well. A loop, since `read_exact` does not say how many came
+// before the end.
 pub fn read_full(rt: &HostRuntime, from: Stream<'_>, buffer: &mut [u8]) -> (usize, io::Result<()>)
     ensures { result.0 ≤ length buffer.new }
 {

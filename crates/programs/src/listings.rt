@@ -54,7 +54,8 @@ fn run_these(sweep: Program<'_>, points: Points<'_>, range: PointRange) -> Resul
     run_all(sweep, Stream::Standard, &mut runner, range, 0)
 }
 
-// Writes the lines of the points of a range, the first `before` of them left out.
+// Writes the lines of the points of a range, the first `before` of them left out. How many are run
+// next is known only when the last ones are done, so no range has these steps.
 pub fn run_all(
     sweep: Program<'_>,
     to: Stream<'_>,

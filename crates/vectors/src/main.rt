@@ -3,7 +3,7 @@
 // The numbers of each kind are listed at the function that compares it.
 #![tactic(auto)]
 
-ghost use Rattle.std.specs.Prelude.{◌<◌, ◌≤◌};
+ghost use Rattle.std.specs.Prelude.{◌≤◌};
 ghost use Rattle.io.specs.Counts.{IsPrefixLen};
 
 use answers::answer;
@@ -155,7 +155,7 @@ fn compare_line(rt: &impl Print, input: &mut impl Read, line: u64, counts: &mut 
 }
 
 // Reads until the buffer is full, the input ends or a read fails, and gives how many bytes it put
-// at the buffer's start.
+// at the buffer's start. A loop, since `read_exact` does not say how many came before the end.
 fn read_full(input: &mut impl Read, buffer: &mut [u8]) -> usize
     ensures { IsPrefixLen result buffer.new }
 {
