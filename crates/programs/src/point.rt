@@ -123,12 +123,11 @@ struct Drawn {
 }
 
 fn run(image: &mut [u16], memory: &mut [u16], op: Operation, s: Settings, seed: u64) -> Drawn {
-    image::fill_image(image, seed);
-    image::fill_image(memory, seed);
+    let _ = image::fill_image(image, seed);
+    let _ = image::fill_image(memory, seed);
     let outcome = drawing::draw(memory, op, s, 0, false, drawing::UNLIMITED);
-    let c = memory::changed(image, memory);
     Drawn {
         outcome,
-        changed: c.bits,
+        changed: memory::changed(image, memory).unwrap_or(0),
     }
 }

@@ -38,7 +38,7 @@ fn prepare(memory: &mut [u16], seed: u64, made: bool, held: u64)
     if made & (seed == held) {
         return;
     }
-    image::fill_image(memory, seed);
+    image::fill_image(memory, seed).unwrap();
 }
 
 // A whole drawing over an image, in a memory of its size.
@@ -50,13 +50,13 @@ fn run_over(image: &[u16], memory: &mut [u16], op: Operation, s: Settings) -> Ra
 {
     copy(image, memory);
     let o = drawing::draw(memory, op, s, 0, false, drawing::UNLIMITED);
-    let c = memory::changed(image, memory);
+    let changed = memory::changed(image, memory).unwrap_or(0);
     let time = fill_timing::fill_time(op, s, o.visited);
     Ran {
         answer: o.answer,
         visited: o.visited,
         v: o.v,
-        changed: c.bits,
+        changed,
         states: time.states,
     }
 }
