@@ -9,7 +9,7 @@ use c_arrays::BAD_CALL;
 pub fn fill_image(memory: &mut [u16], seed: u64) -> u32
     ensures { FillImageCall memory.old seed result memory.new }
 {
-    image::fill_image(memory, seed)
+    answers::answer(&image::fill_image(memory, seed))
 }
 
 // How many bits differ between two memories; out[0] is the count.
@@ -17,10 +17,10 @@ pub fn changed(before: &[u16], after: &[u16], out: &mut [u64]) -> u32
     ensures { ChangedCall before.now after.now out.old
         result out.new }
 {
-    if out.len() < 1 {
+    if out.is_empty() {
         return BAD_CALL;
     }
     let r = memory::changed(before, after);
-    out[0] = r.bits;
-    r.answer
+    out[0] = r.unwrap_or(0);
+    answers::answer(&r)
 }

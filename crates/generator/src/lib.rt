@@ -20,12 +20,13 @@ pub struct Generator {
     pub state: u64,
 }
 
-// One draw: advances the generator in place by a step, and answers its new state.
-pub fn draw(g: &mut Generator) -> u64
-    ensures { let next = stepped g.old.state in
-        (result ≡ next) × (g.new.state ≡ next) }
-{
-    let next = step(g.state);
-    g.state = next;
-    next
+impl Generator {
+    // One draw: advances the generator in place by a step, and answers its new state.
+    pub fn draw(&mut self) -> u64
+        ensures { let next = stepped self.old.state in
+            (result ≡ next) × (self.new.state ≡ next) }
+    {
+        self.state = step(self.state);
+        self.state
+    }
 }

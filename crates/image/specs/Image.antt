@@ -1,5 +1,7 @@
 -- The image of a seed (the scope, "Plans and images"). Assumes nothing.
-use Rattle.std.specs.Prelude.{cond, List, [], ◌∷◌, ◌++◌, ℕ, zero, suc, ◌/◌, ◌%◌, ◌^◌, length, take}
+use Rattle.std.specs.Prelude.{Result, Ok, Err, cond, List, [], ◌∷◌, ◌++◌, ℕ, zero, suc, ◌/◌, ◌%◌, ◌^◌, length, take}
+use Rattle.answers.specs.declared.Refused.{Refused}
+use Rattle.answers.specs.declared.Refused.TheVariants.{Memory}
 use Rattle.memory.specs.Bits.{no_memory}
 unfoldable pub use Rattle.generator.specs.Step.{stepped}
 
@@ -18,9 +20,9 @@ draws (suc k) x = words 4 (stepped x) ++ draws k (stepped x)
 abbrev pub image : ℕ → ℕ → List ℕ
 image n seed = take n (draws n seed)
 
--- an image is asked of a memory: refusal 10, or 0
-abbrev pub image_refusal : ℕ → ℕ
-image_refusal words = cond (no_memory words) 10 0
+-- an image is asked of a memory: refusal 10, or done
+abbrev pub image_refusal : ℕ → Result (Unit {0}) Refused
+image_refusal words = cond (no_memory words) (Err Memory) (Ok tt)
 
 -- the memory after it
 unfoldable pub imaged : List ℕ → ℕ → List ℕ

@@ -5,6 +5,9 @@ ghost use Rattle.std.specs.Prelude.{◌≡◌, ◌+◌, ◌<◌, ◌≤◌, leng
 ghost use Rattle.image.specs.Image.{image, image_refusal, imaged};
 ghost use Rattle.image.specs.Words.{stored_words};
 
+use answers::Refused;
+use generator::Generator;
+
 // 2^16: words are less.
 const WORDS: u64 = 65536;
 
@@ -14,16 +17,16 @@ const WORDS_2: u64 = 4294967296;
 // 2^48: three words are less.
 const WORDS_3: u64 = 281474976710656;
 
-// Fills the memory with the image of the seed, and answers 0 or the refusal's number.
-pub fn fill_image(memory: &mut [u16], seed: u64) -> u32
+// Fills the memory with the image of the seed.
+pub fn fill_image(memory: &mut [u16], seed: u64) -> Result<(), Refused>
     ensures { let m = memory.old in
         (result ≡ image_refusal (length m)) × (memory.new ≡ imaged m seed) }
 {
     if memory::no_memory(memory.len()) {
-        return 10;
+        return Err(Refused::Memory);
     }
     fill(memory, seed);
-    0
+    Ok(())
 }
 
 // Four words of each draw, lowest first, cut off at the memory's end. One generator is lent to
@@ -31,10 +34,10 @@ pub fn fill_image(memory: &mut [u16], seed: u64) -> u32
 fn fill(memory: &mut [u16], seed: u64)
     ensures { memory.new ≡ image (length memory.old) seed }
 {
-    let mut g = generator::Generator { state: seed };
+    let mut g = Generator { state: seed };
     let mut at = 0;
     while at < memory.len() {
-        let x = generator::draw(&mut g);
+        let x = g.draw();
         put(memory, at, x);
         at += 4;
     }
@@ -60,10 +63,8 @@ fn put_last(memory: &mut [u16], at: usize, x: u64)
     ensures { memory.new ≡ stored_words 4 memory.old at x }
 {
     let mut rest = x;
-    let mut i = at;
-    while i < memory.len() {
+    for i in at..memory.len() {
         memory[i] = (rest % WORDS) as u16;
         rest /= WORDS;
-        i += 1;
     }
 }

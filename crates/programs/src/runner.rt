@@ -113,11 +113,10 @@ impl Runner<'_> {
     // What a drawing over the image of a seed hands back, and how many bits it changes.
     pub fn drawn(&mut self, op: Operation, s: Settings, seed: u64) -> (Outcome, u64) {
         let (image, memory) = (&mut *self.image, &mut *self.memory);
-        image::fill_image(image, seed);
-        image::fill_image(memory, seed);
+        let _ = image::fill_image(image, seed);
+        let _ = image::fill_image(memory, seed);
         let outcome = drawing::draw(memory, op, s, 0, false, drawing::UNLIMITED);
-        let changed = memory::changed(image, memory);
-        (outcome, changed.bits)
+        (outcome, memory::changed(image, memory).unwrap_or(0))
     }
 }
 

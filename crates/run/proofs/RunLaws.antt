@@ -7,6 +7,7 @@ use Prim.Native.Nat.{ℕ, ◌+◌, ◌^◌, ◌<◌}
 use native.Mathlib.Omega.{arith}
 use borrow.Author.Tests.{eq-eqb, ne_eqb}
 use lib.ListN.{length, drop_of_length-le}
+use Rattle.std.specs.Prelude.{Ok}
 use Rattle.memory.specs.Bits.{no_memory}
 use Rattle.memory.specs.Changed.{changed_bits, counted}
 use Rattle.memory.proofs.ChangedLaws.{changed_bits-same}
@@ -30,7 +31,7 @@ out_after-fourteen k n t out l h =
     rw (← (answer-done k n t out (omega arith) h).0, drop_of_length-le out {i = 14} (omega arith)) (append-nil (experiment (axes_in k t) n))
 
 -- the count of a memory and one of its length
-pub counted-bits : (m m' : List ℕ) → no_memory (length m) ≡ false → length m' ≡ length m → (counted m m').bits ≡ changed_bits m m'
+pub counted-bits : (m m' : List ℕ) → no_memory (length m) ≡ false → length m' ≡ length m → counted m m' ≡ Ok (changed_bits m m')
 unfolding counted
 counted-bits m m' e l = rw (l, e)
 

@@ -27,7 +27,7 @@ fn prepare(memory: &mut [u16], seed: u64, held: Option<u64>)
     if held == Some(seed) {
         return;
     }
-    image::fill_image(memory, seed);
+    image::fill_image(memory, seed).unwrap();
 }
 
 // A whole drawing over an image, in a memory of its size.
@@ -39,13 +39,13 @@ fn run_over(image: &[u16], memory: &mut [u16], op: Operation, s: Settings) -> Ra
 {
     memory.copy_from_slice(image);
     let o = drawing::draw(memory, op, s, 0, false, drawing::UNLIMITED);
-    let c = memory::changed(image, memory);
+    let changed = memory::changed(image, memory).unwrap_or(0);
     let time = fill_timing::fill_time(op, s, o.visited);
     Ran {
         answer: o.answer,
         visited: o.visited,
         v: o.v,
-        changed: c.bits,
+        changed,
         states: time.states,
     }
 }

@@ -61,16 +61,16 @@ fn show_image(rt: &impl Print) {
     let zeros = [0u16; 4];
     let mut space = [0u16; 4];
     let memory: &mut [u16] = &mut space;
-    image::fill_image(memory, 1);
+    image::fill_image(memory, 1).unwrap();
     let low = field::read(memory, 0, 32, false).unwrap_or(0);
     let high = field::read(memory, 32, 32, false).unwrap_or(0);
-    let counted = memory::changed(&zeros, memory);
+    let bits = memory::changed(&zeros, memory).unwrap_or(0);
     text(rt, "image of seed 1 over 4 words\n  words 1 and 0\t");
     hex(rt, u64::from(low), 8);
     text(rt, "\n  words 3 and 2\t");
     hex(rt, u64::from(high), 8);
     text(rt, "\n  bits that are 1\t");
-    number(rt, counted.bits);
+    number(rt, bits);
     text(rt, "\n");
 }
 

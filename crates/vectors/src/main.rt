@@ -231,7 +231,7 @@ fn fetch_agrees(n: [u32; 20]) -> bool {
 fn image_agrees(n: [u32; 20]) -> bool {
     let mut m = [0u16; 12];
     let words = held(n[3], &m);
-    let answer = image::fill_image(&mut m[..words], wide(n[1], n[2]));
+    let answer = answers::answer(&image::fill_image(&mut m[..words], wide(n[1], n[2])));
     let a = are_words([m[0], m[1], m[2], m[3]], n[4], n[5], n[6], n[7]);
     let b = are_words([m[4], m[5], m[6], m[7]], n[8], n[9], n[10], n[11]);
     let c = are_words([m[8], m[9], m[10], m[11]], n[12], n[13], n[14], n[15]);
@@ -245,7 +245,8 @@ fn changed_agrees(n: [u32; 20]) -> bool {
     let before = held(n[1], &a);
     let after = held(n[2], &b);
     let r = memory::changed(&a[..before], &b[..after]);
-    (n[1] <= 4) & (n[2] <= 4) & (r.answer == n[11]) & (r.bits == wide(n[12], 0))
+    let answer = answers::answer(&r);
+    (n[1] <= 4) & (n[2] <= 4) & (answer == n[11]) & (r.unwrap_or(0) == wide(n[12], 0))
 }
 
 // How many words of the memory a call is lent: all of it where the vector asks for more.

@@ -10,9 +10,4 @@ returns-then-no_memory c =
 pub returns : goal.returns
 unfolding counted
 returns c =
-    rw (
-      ← c.no_memory.ensures,
-      ← c.no_memory-2.ensures,
-      c.if-no_memory.false,
-      c.changed_bits-bits.ensures,
-    )
+    rw (← c.no_memory.ensures, ← c.no_memory-2.ensures, c.if-no_memory.false, c.changed_bits.ensures)

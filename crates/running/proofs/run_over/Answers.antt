@@ -14,4 +14,4 @@ returns c =
     let n = counted-bits image c.draw-o.new.memory c.requires.1 l in
     let e = c.draw-o.ensures in
     let o = c.copy_from_slice.ensures.after in
-    (rw (c.fill_time-time.ensures, c.changed-c.ensures, n, e.0, e.1, o), rw (e.1, o))
+    (rw (c.fill_time-time.ensures, c.unwrap_or-changed.ensures, c.changed.ensures, n, e.0, e.1, o), rw (e.1, o))
