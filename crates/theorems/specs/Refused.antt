@@ -1,7 +1,7 @@
 -- Demand 1 of the calls by name: a refused call returns its number and changes no word of memory,
 -- no register and no setting. (Each promise settles this already; here it is said of the
 -- definitions that the promises cite.) The proofs are in proofs/Refused.antt. Assumes nothing.
-use Rattle.std.specs.Prelude.{◌≡◌, Bool, true, false, Ok, List, ℕ, ◌≤◌, length, Result}
+use Rattle.std.specs.Prelude.{◌≡◌, Bool, true, false, Ok, List, ℕ, ◌≤◌, length, Result, Err}
 use Rattle.answers.specs.declared.Refused as answers
 use Rattle.answers.specs.Answer.{answer}
 use Rattle.memory.specs.Bits.{no_memory}
@@ -9,7 +9,7 @@ use Rattle.field.specs.Field as field
 use Rattle.image.specs.Image.{imaged}
 use Rattle.cache.specs.Cache.{bad_state, fetched}
 use Rattle.cache.specs.declared.Cache.{Cache}
-use Rattle.cache.specs.declared.Kind.TheVariants.{Refused}
+use Rattle.answers.specs.declared.Refused.TheVariants.{CacheState}
 use Rattle.settings.specs.declared.Settings.{Settings}
 use Rattle.lone.specs.declared.Lone.{Lone}
 use Rattle.pixt.specs.declared.PixelResult.{PixelResult}
@@ -83,7 +83,7 @@ DravRefused =
       settings = s;
     })
 
--- A field write, an image and a fetch.
+-- A field write, an image and a fetch, which hands back no state.
 abbrev pub WriteRefused : Type 0
 WriteRefused =
     (m : List ℕ) (a n x : ℕ) → (field.field_refusal (length m) a n ≡ Ok tt → ⊥)
@@ -95,7 +95,7 @@ ImageRefused = (m : List ℕ) (seed : ℕ) → no_memory (length m) ≡ true →
 abbrev pub FetchRefused : Type 0
 FetchRefused =
     (c : Cache) (address control : ℕ) → bad_state c ≡ true
-    → fetched c address control ≡ record { kind = Refused; cache = c }
+    → fetched c address control ≡ Err CacheState
 
 -- Reading a plan: the lent table stays.
 abbrev pub PlanRefused : Type 0
