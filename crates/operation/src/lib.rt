@@ -40,48 +40,27 @@ pub fn operation_of(number: u64) -> Operation
 pub fn to_xy(op: Operation) -> bool
     ensures { result ≡ to_xy op }
 {
-    match op {
-        Operation::FillL => false,
-        Operation::FillXY => true,
-        Operation::PixbltLL => false,
-        Operation::PixbltLXY => true,
-        Operation::PixbltXYL => false,
-        Operation::PixbltXYXY => true,
-        Operation::PixbltBL => false,
-        Operation::PixbltBXY => true,
-    }
+    matches!(
+        op,
+        Operation::FillXY | Operation::PixbltLXY | Operation::PixbltXYXY | Operation::PixbltBXY
+    )
 }
 
 // Is the source XY?
 pub fn from_xy(op: Operation) -> bool
     ensures { result ≡ from_xy op }
 {
-    match op {
-        Operation::FillL => false,
-        Operation::FillXY => false,
-        Operation::PixbltLL => false,
-        Operation::PixbltLXY => false,
-        Operation::PixbltXYL => true,
-        Operation::PixbltXYXY => true,
-        Operation::PixbltBL => false,
-        Operation::PixbltBXY => false,
-    }
+    matches!(op, Operation::PixbltXYL | Operation::PixbltXYXY)
 }
 
 // Does the model walk to the chosen corner?
 pub fn walks_to_corner(op: Operation) -> bool
     ensures { result ≡ walks_to_corner op }
 {
-    match op {
-        Operation::FillL => false,
-        Operation::FillXY => false,
-        Operation::PixbltLL => false,
-        Operation::PixbltLXY => true,
-        Operation::PixbltXYL => true,
-        Operation::PixbltXYXY => true,
-        Operation::PixbltBL => false,
-        Operation::PixbltBXY => false,
-    }
+    matches!(
+        op,
+        Operation::PixbltLXY | Operation::PixbltXYL | Operation::PixbltXYXY
+    )
 }
 
 // What it draws from.
@@ -89,14 +68,10 @@ pub fn source_of(op: Operation) -> Source
     ensures { result ≡ source_of op }
 {
     match op {
-        Operation::FillL => Source::Color,
-        Operation::FillXY => Source::Color,
-        Operation::PixbltLL => Source::Pixels,
-        Operation::PixbltLXY => Source::Pixels,
-        Operation::PixbltXYL => Source::Pixels,
-        Operation::PixbltXYXY => Source::Pixels,
-        Operation::PixbltBL => Source::Bits,
-        Operation::PixbltBXY => Source::Bits,
+        Operation::FillL | Operation::FillXY => Source::Color,
+        Operation::PixbltLL | Operation::PixbltLXY | Operation::PixbltXYL | Operation::PixbltXYXY =>
+            Source::Pixels,
+        Operation::PixbltBL | Operation::PixbltBXY => Source::Bits,
     }
 }
 
@@ -104,20 +79,12 @@ pub fn source_of(op: Operation) -> Source
 pub fn copies(source: Source) -> bool
     ensures { result ≡ copies source }
 {
-    match source {
-        Source::Color => false,
-        Source::Pixels => true,
-        Source::Bits => true,
-    }
+    matches!(source, Source::Pixels | Source::Bits)
 }
 
 // Is there a source array of pixels?
 pub fn copies_pixels(source: Source) -> bool
     ensures { result ≡ copies_pixels source }
 {
-    match source {
-        Source::Color => false,
-        Source::Pixels => true,
-        Source::Bits => false,
-    }
+    matches!(source, Source::Pixels)
 }

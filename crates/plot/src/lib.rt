@@ -13,9 +13,6 @@ use walk::Walk;
 // 2^16: words are less.
 const WORDS: u32 = 65536;
 
-// All 32 bits.
-const ONES: u32 = 4294967295;
-
 // What a destination pixel is drawn from: COLOR1, a source pixel, or one bit that chooses COLOR1 or
 // COLOR0.
 #[derive(Clone, Copy)]
@@ -46,7 +43,7 @@ pub struct Drawing {
 pub fn pixels(d: Drawing) -> u64
     ensures { result ≡ pixels d }
 {
-    (d.cols as u64) * (d.rows as u64)
+    u64::from(d.cols) * u64::from(d.rows)
 }
 
 // A word at an address's place in it.
@@ -56,18 +53,12 @@ pub fn shifted(word: u32, address: u32) -> u32
     word >> (address % 16)
 }
 
-pub fn wide(word: u16) -> u32
-    ensures { result ≡ word }
-{
-    word as u32
-}
-
 // The word after its pixel at an address is drawn from s, of which the pixel's bits count.
 pub fn word_after(d: Drawing, address: u32, s: u32, word: u16) -> u16
     ensures { let top = top_of d.psize in
         result ≡ word_after d.pp d.t top d.pmask address (bit_and s top) word }
 {
-    let top = wide(pixel::top_of(d.psize));
+    let top = u32::from(pixel::top_of(d.psize));
     blend(d, top, address, s, word)
 }
 
@@ -78,7 +69,7 @@ fn blend(d: Drawing, top: u32, address: u32, s: u32, word: u16) -> u16
     ensures { result ≡ word_after d.pp d.t top d.pmask address (bit_and s top) word }
 {
     let planes = planes_at(d, top, address);
-    let old = shifted(wide(word), address) & planes;
+    let old = shifted(u32::from(word), address) & planes;
     let result = process(d, top, s & planes, old) & planes;
     if d.t {
         if result == 0 {
@@ -94,7 +85,7 @@ fn planes_at(d: Drawing, top: u32, address: u32) -> u32
     requires { top ≡ top_of d.psize }
     ensures { result ≡ complement top (pixel_of top d.pmask address) }
 {
-    shifted(wide(d.pmask) ^ ONES, address) & top
+    shifted(u32::from(d.pmask) ^ u32::MAX, address) & top
 }
 
 // The word with a result in the place of the enabled bits of its pixel at an address.
@@ -103,12 +94,13 @@ fn replace(word: u16, address: u32, planes: u32, res: u32) -> u16
     ensures { result ≡ replaced word address planes res }
 {
     let shift = address % 16;
-    let old = (word as u32) & (planes << shift);
-    let kept = (word as u32) - old;
+    let before = u32::from(word);
+    let kept = before - (before & (planes << shift));
     ((kept + (res << shift)) % WORDS) as u16
 }
 
-// The operation PP, in the scope's order.
+// The operation PP, in the scope's order; by its number, as `processed` and its theorems say it.
+#[tactic(auto, unfolding(pixel::specs::PixelOp::processed, pixel::specs::PixelOp::pixel_operations))]
 fn process(w: Drawing, top: u32, s: u32, d: u32) -> u32
     requires { (top ≡ top_of w.psize) × (s ≤ top) × (d ≤ top) }
     ensures { result ≡ processed w.pp top s d }
@@ -132,16 +124,17 @@ fn process(w: Drawing, top: u32, s: u32, d: u32) -> u32
         14 => (s & d) ^ top,
         15 => s ^ top,
         16 => add(w, top, s, d),
-        17 => add_saturated(top, s, d),
+        17 => (s + d).min(top),
         18 => subtract(w, top, s, d),
-        19 => subtract_saturated(s, d),
-        20 => greater(s, d),
-        21 => lesser(s, d),
+        19 => d.saturating_sub(s),
+        20 => s.max(d),
+        21 => s.min(d),
         _ => 0,
     }
 }
 
 // PP 16: S + D mod 2^P.
+#[tactic(auto, using(crate::proofs::WordLaws::and_top))]
 fn add(w: Drawing, top: u32, s: u32, d: u32) -> u32
     requires { (top ≡ top_of w.psize) × (s ≤ top) × (d ≤ top) }
     ensures { result ≡ (s + d) % suc top }
@@ -149,39 +142,11 @@ fn add(w: Drawing, top: u32, s: u32, d: u32) -> u32
     (s + d) & top
 }
 
-// PP 17: the lesser of S + D and top.
-fn add_saturated(top: u32, s: u32, d: u32) -> u32
-    requires { (s ≤ top) × (d ≤ top) × (top < 2 ^ 16) }
-    ensures { result ≡ min (s + d) top }
-{
-    s + lesser(d, top - s)
-}
-
 // PP 18: D - S mod 2^P.
+#[tactic(auto, using(crate::proofs::WordLaws::and_top))]
 fn subtract(w: Drawing, top: u32, s: u32, d: u32) -> u32
     requires { (top ≡ top_of w.psize) × (s ≤ top) × (d ≤ top) }
     ensures { result ≡ (d + suc top - s) % suc top }
 {
     (d + (top - s) + 1) & top
-}
-
-// PP 19: D - S, or 0 if negative.
-fn subtract_saturated(s: u32, d: u32) -> u32
-    ensures { result ≡ d - s }
-{
-    if s <= d { d - s } else { 0 }
-}
-
-// PP 20: the greater.
-fn greater(s: u32, d: u32) -> u32
-    ensures { result ≡ max s d }
-{
-    if s < d { d } else { s }
-}
-
-// PP 21: the lesser.
-fn lesser(s: u32, d: u32) -> u32
-    ensures { result ≡ min s d }
-{
-    if s < d { s } else { d }
 }
