@@ -9,6 +9,7 @@ ghost use Rattle.c_arrays.specs.Out.{flag_number};
 ghost use Rattle.c_arrays.specs.Settings.{too_large_at, bad_settings};
 
 use settings::Settings;
+use std::array;
 
 // The answer to bad arguments (`bad_call` of the specs, BH_BAD_ARGUMENT of the header).
 pub const BAD_CALL: u32 = 9;
@@ -17,25 +18,22 @@ pub const BAD_CALL: u32 = 9;
 pub fn flag_number(flag: bool) -> u32
     ensures { (result ≡ flag_number flag) × (result ≤ 1) }
 {
-    if flag { 1 } else { 0 }
+    u32::from(flag)
 }
 
 // Stores numbers at the array's start, as far as it reaches.
-pub fn store_numbers(out: &mut [u32], numbers: &[u32])
+pub fn store_numbers<T: Copy>(out: &mut [T], numbers: &[T])
     ensures { out.new ≡ sets out.old 0 numbers.now }
 {
-    let mut i: usize = 0;
-    while (i < numbers.len()) & (i < out.len()) {
-        out[i] = numbers[i];
-        i += 1;
-    }
+    let n = out.len().min(numbers.len());
+    out[..n].copy_from_slice(&numbers[..n]);
 }
 
 // A number of an array; one past the end is 0.
 pub fn number_at(numbers: &[u32], at: usize) -> u32
     ensures { result ≡ get_or numbers.now at 0 }
 {
-    if at < numbers.len() { numbers[at] } else { 0 }
+    numbers.get(at).copied().unwrap_or(0)
 }
 
 // Are there fewer than thirteen numbers, or is one of the last three too large for its place?
@@ -52,34 +50,13 @@ pub fn bad_settings(settings: &[u32]) -> bool
 fn too_large(settings: &[u32], number: usize) -> bool
     ensures { result ≡ too_large_at settings.now number }
 {
-    names::greatest(number as u64) < wide_at(settings, number)
+    names::greatest(number as u64) < u64::from(number_at(settings, number))
 }
 
 // The settings that the array's first thirteen numbers are.
 pub fn settings_in(settings: &[u32]) -> Settings
     ensures { result ≡ settings_of settings.now }
 {
-    let numbers = [
-        wide_at(settings, names::SADDR),
-        wide_at(settings, names::SPTCH),
-        wide_at(settings, names::DADDR),
-        wide_at(settings, names::DPTCH),
-        wide_at(settings, names::OFFSET),
-        wide_at(settings, names::WSTART),
-        wide_at(settings, names::WEND),
-        wide_at(settings, names::DYDX),
-        wide_at(settings, names::COLOR0),
-        wide_at(settings, names::COLOR1),
-        wide_at(settings, names::CONTROL),
-        wide_at(settings, names::PSIZE),
-        wide_at(settings, names::PMASK),
-    ];
+    let numbers: [u64; names::SETTINGS] = array::from_fn(|at| u64::from(number_at(settings, at)));
     settings::settings_of(&numbers)
-}
-
-// `number_at` in 64 bits.
-fn wide_at(numbers: &[u32], at: usize) -> u64
-    ensures { result ≡ get_or numbers.now at 0 }
-{
-    number_at(numbers, at) as u64
 }

@@ -2,8 +2,9 @@
 #![tactic(auto)]
 
 ghost use Rattle.std.specs.Prelude.{◌≡◌};
-ghost use Rattle.c_cache.specs.Fetch.{FetchCall, kind_number, stays, state_after};
+ghost use Rattle.c_cache.specs.Fetch.{FetchCall, fetch_number, state_after};
 
+use answers::Refused;
 use c_arrays::BAD_CALL;
 use c_state::STATE_NUMBERS;
 use cache::{Fetched, Kind};
@@ -17,45 +18,28 @@ pub fn fetch(state: &mut [u32], address: u32, control: u16, out: &mut [u32]) -> 
         return BAD_CALL;
     }
     let fetched = c_state::cache_of(state).fetch(address, control);
-    let kind = fetched.kind;
-    out[0] = kind_number(kind);
+    out[0] = fetch_number(fetched);
     hand_back(state, fetched);
-    cache::answer(kind)
+    answers::answer(&fetched)
 }
 
-fn kind_number(kind: Kind) -> u32
-    ensures { result ≡ kind_number kind }
+// The number of a fetch's kind, or of its refusal.
+fn fetch_number(fetched: Result<Fetched, Refused>) -> u32
+    ensures { result ≡ fetch_number fetched }
 {
-    match kind {
-        Kind::Hit => 0,
-        Kind::SubsegmentMiss => 1,
-        Kind::SegmentMiss => 2,
-        Kind::Disabled => 3,
-        Kind::Refused => 19,
+    match fetched {
+        Ok(f) => u32::from(f.kind),
+        Err(refused) => u32::from(refused),
     }
 }
 
-// Does a fetch of this kind leave the state?
-fn is_kept(kind: Kind) -> bool
-    ensures { result ≡ stays kind }
-{
-    match kind {
-        Kind::Hit => false,
-        Kind::SubsegmentMiss => false,
-        Kind::SegmentMiss => false,
-        Kind::Disabled => true,
-        Kind::Refused => true,
-    }
-}
-
-// Stores the state after a fetch, where it does not stay.
-fn hand_back(state: &mut [u32], fetched: Fetched)
+// Stores the state after a fetch, where it does not stay: with CD 1 it does.
+fn hand_back(state: &mut [u32], fetched: Result<Fetched, Refused>)
     ensures { state.new ≡ state_after state.old fetched }
 {
-    let kind = fetched.kind;
-    let cache = fetched.cache;
-    if is_kept(kind) {
-        return;
+    if let Ok(f) = fetched
+        && f.kind != Kind::Disabled
+    {
+        c_state::store_state(state, f.cache);
     }
-    c_state::store_state(state, cache);
 }

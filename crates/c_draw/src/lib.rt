@@ -5,7 +5,7 @@ ghost use Rattle.std.specs.Prelude.{◌≡◌};
 ghost use Rattle.std.proofs.lemmas.List.Edits.{sets};
 ghost use Rattle.c_draw.specs.Draw.{draw_results, OutcomeCall, DrawCall};
 
-use c_arrays::{BAD_CALL, flag_number};
+use c_arrays::BAD_CALL;
 use drawing::Outcome;
 
 // How many results there are (`draw_result_count` of the specs).
@@ -30,7 +30,7 @@ pub fn draw(
     {
         return BAD_CALL;
     }
-    let op = operation::operation_of(wide(operation));
+    let op = operation::operation_of(u64::from(operation));
     let s = c_arrays::settings_in(settings);
     let r = drawing::draw(memory, op, s, place, v != 0, budget);
     hand_out(out, r);
@@ -55,7 +55,7 @@ pub fn outcome(
     {
         return BAD_CALL;
     }
-    let op = operation::operation_of(wide(operation));
+    let op = operation::operation_of(u64::from(operation));
     let s = c_arrays::settings_in(settings);
     let r = drawing::outcome_for(op, s, place, v != 0, budget, words);
     hand_out(out, r);
@@ -69,28 +69,11 @@ fn hand_out(out: &mut [u64], r: Outcome)
     let results = [
         r.place,
         r.visited,
-        wide(flag_number(r.v)),
-        wide(flag_number(r.request)),
-        wide(r.saddr),
-        wide(r.daddr),
-        wide(r.dydx),
+        u64::from(r.v),
+        u64::from(r.request),
+        u64::from(r.saddr),
+        u64::from(r.daddr),
+        u64::from(r.dydx),
     ];
-    store_wide(out, &results);
-}
-
-// `c_arrays::store_numbers` for numbers of 64 bits.
-pub fn store_wide(out: &mut [u64], numbers: &[u64])
-    ensures { out.new ≡ sets out.old 0 numbers.now }
-{
-    let mut i: usize = 0;
-    while (i < numbers.len()) & (i < out.len()) {
-        out[i] = numbers[i];
-        i += 1;
-    }
-}
-
-fn wide(x: u32) -> u64
-    ensures { result ≡ x }
-{
-    x as u64
+    c_arrays::store_numbers(out, &results);
 }

@@ -22,7 +22,7 @@ pub fn states(words: usize, operation: u32, settings: &[u32], out: &mut [u64]) -
     {
         return BAD_CALL;
     }
-    let op = operation::operation_of(wide(operation));
+    let op = operation::operation_of(u64::from(operation));
     let s = c_arrays::settings_in(settings);
     let r = fill_timing::fill_states(op, s, words);
     hand_out(out, r.time);
@@ -34,11 +34,5 @@ fn hand_out(out: &mut [u64], t: Time)
     ensures { out.new ≡ sets out.old 0 (fill_results t) }
 {
     let results = [t.setup, t.transfer, t.adjustment, t.states];
-    c_draw::store_wide(out, &results);
-}
-
-fn wide(x: u32) -> u64
-    ensures { result ≡ x }
-{
-    x as u64
+    c_arrays::store_numbers(out, &results);
 }

@@ -1,16 +1,19 @@
 -- Laws of `specs/Cache.antt`. No contract cites this file. Assumes nothing.
-use mathlib.Core.Path.{◌≡◌, refl, ap, ◌∙◌}
+use mathlib.Core.Path.{◌≡◌, refl, sym, ap, ◌∙◌}
 use mathlib.Core.Bool.{Bool, true, false, cond, ◌||◌, and_assoc, and-false, and-eq-true_iff}
 use mathlib.Core.List.{List}
-use Prim.Native.Nat.{ℕ, ◌^◌, ◌≤◌, ◌<◌}
+use Prim.Native.Nat.{ℕ, ◌^◌, ◌<◌}
 use native.Mathlib.Omega.{arith}
-use borrow.Author.Tests.{lt-ltb, le-ltb, leb-false}
-use lib.Dec.{eqb, leb, ltb}
-use lib.ListN.{get_or}
-use lib.Seq.{set-get_or}
+use borrow.Author.Tests.{ltb-true, le-ltb, leb-false}
+use lib.Dec.{eqb, leb}
+use lib.ListN.{length, get_or}
+use Rattle.std.specs.Prelude.{Option, Some, None, Result, Ok, Err}
+use Rattle.answers.specs.declared.Refused.{Refused}
+use Rattle.answers.specs.declared.Refused.TheVariants.{CacheState}
+use Rattle.answers.specs.Answer.{answer}
 use Rattle.lists.specs.Search.{any, first, any_pair}
 use Rattle.lists.proofs.TestLaws.{or-eq-false}
-use Rattle.lists.proofs.SearchLaws.{get_or-first, any-get_or, any_none, any-set, any-set-same, any_pair-set, any_pair-set-same}
+use Rattle.lists.proofs.SearchLaws.{any-first, get_or-first, any-get_or, any_none, any-set, any-set-same, any_pair-set, any_pair-set-same}
 use Rattle.segments.specs.declared.Segment.{Segment}
 use Rattle.order.specs.Order.{bad_order, latest}
 use Rattle.order.proofs.OrderLaws.{any-latest, any_pair-latest}
@@ -18,10 +21,10 @@ use Rattle.segments.specs.Segments.{segment_count, most_start, too_high, holds_s
 use Rattle.segments.proofs.SegmentLaws.{clash-comm}
 use Rattle.cache.specs.declared.Cache.{Cache}
 use Rattle.cache.specs.declared.Fetched.{Fetched}
-use Rattle.cache.specs.declared.Kind.TheVariants.{Hit, SubsegmentMiss, SegmentMiss, Disabled, Refused}
+use Rattle.cache.specs.declared.Kind.TheVariants.{Disabled}
 use Rattle.control.specs.Control.{disabled}
-use Rattle.cache.specs.Cache.{bad_state, fetch_refusal, start_address, subsegment_of, with_segment, no_flags, with_flag, segment_at, hit}
-use Rattle.cache.specs.Cache.{subsegment_miss, segment_miss, matched, lookup, fetched, fetch_answer}
+use Rattle.cache.specs.Cache.{bad_state, fetch_refusal, start_address, subsegment_of, with_segment, with_flag, segment_at, hit}
+use Rattle.cache.specs.Cache.{subsegment_miss, segment_miss, matched, lookup, fetched}
 
 -- what holds of a state that is not refused
 pub record Accepted (c : Cache) : Type 0 where
@@ -49,69 +52,67 @@ order_lt c i e = leb-false segment_count _ (any-get_or (λ k. leb segment_count 
 -- What a fetch hands back, by the tests of the state and of CD
 
 module _ (c : Cache) (address control : ℕ) where
-  pub fetched-refused : bad_state c ≡ true → fetched c address control ≡ record { kind = Refused; cache = c }
+  pub fetched-refused : bad_state c ≡ true → fetched c address control ≡ Err CacheState
   unfolding fetched
   fetched-refused e = rw e
 
-  pub fetched-disabled : bad_state c ≡ false → disabled control ≡ true → fetched c address control ≡ record { kind = Disabled; cache = c }
+  pub fetched-disabled : bad_state c ≡ false → disabled control ≡ true
+      → fetched c address control ≡ Ok (record { kind = Disabled; cache = c })
   unfolding fetched
   fetched-disabled e d = rw (e, d)
 
   pub fetched-lookup : bad_state c ≡ false → disabled control ≡ false
-      → fetched c address control ≡ lookup c (start_address address) (subsegment_of address)
+      → fetched c address control ≡ Ok (lookup c (start_address address) (subsegment_of address))
   unfolding fetched
   fetched-lookup e d = rw (e, d)
 
--- The number that a fetch answers is that of its state, whatever it finds
-
-module _ (c : Cache) (address control : ℕ) where
-  pub answer-refusal : fetch_answer (fetched c address control).kind ≡ fetch_refusal c
-  unfolding fetched lookup
-  answer-refusal =
-      go (bad_state c) (disabled control) (any (matches start) c.segments) (get_or (segment_at c i).present sub false)
+  -- The number that a fetch answers is that of its state, whatever it finds
+  pub answer-refusal : answer (fetched c address control) ≡ fetch_refusal c
+  unfolding fetched
+  answer-refusal = go (bad_state c) (disabled control)
     where
-      start : ℕ
-      start = start_address address
+      go : (r d : Bool) → answer (cond {A = Result Fetched Refused} r (Err CacheState)
+          (cond d (Ok (record { kind = Disabled; cache = c }))
+          (Ok (lookup c (start_address address) (subsegment_of address))))) ≡ cond r 19 0
+      go true d = refl
+      go false true = refl
+      go false false = refl
 
-      sub : ℕ
-      sub = subsegment_of address
-
-      i : ℕ
-      i = first (matches start) c.segments
-
-      go : (r d m f : Bool)
-          → fetch_answer (cond r (record { kind = Refused; cache = c })
-          (cond d (record { kind = Disabled; cache = c })
-          (cond m (cond f (hit c i) (subsegment_miss c i sub)) (segment_miss c start sub)))).kind ≡ cond r 19 0
-      go true d m f = refl
-      go false true m f = refl
-      go false false true true = refl
-      go false false true false = refl
-      go false false false f = refl
-
-  pub fetched-answer : {r : Fetched} → r ≡ fetched c address control
-      → (r ≡ fetched c address control) × (fetch_answer r.kind ≡ fetch_refusal c)
-  fetched-answer e = (e, ap (λ (f : Fetched). fetch_answer f.kind) e ∙ answer-refusal)
+  pub fetched-answer : {r : Result Fetched Refused} → r ≡ fetched c address control
+      → (r ≡ fetched c address control) × (answer r ≡ fetch_refusal c)
+  fetched-answer e = (e, ap (λ (f : Result Fetched Refused). answer f) e ∙ answer-refusal)
 
 -- What a look-up hands back, by the place of the first match
 
-module _ (c : Cache) (start sub i : ℕ) (e : i ≡ first (matches start) c.segments)
-    (f : any (matches start) c.segments ≡ ltb i segment_count) (r : Cache) where
-  pub lookup-hit : i < segment_count → get_or (segment_at c i).present sub false ≡ true → r ≡ with_segment c i (segment_at c i)
-      → record { kind = Hit; cache = r } ≡ lookup c start sub
+module _ (c : Cache) (start sub : ℕ) (r : Option ℕ)
+    (e : r ≡ cond (any (matches start) c.segments) (Some (first (matches start) c.segments)) None) where
+  pub lookup-matched : (i : ℕ) → r ≡ Some i → matched c i sub ≡ lookup c start sub
   unfolding lookup
-  lookup-hit l t q = rw (q, f, lt-ltb i segment_count l, ← e, t, set-get_or c.segments i no_segment)
+  lookup-matched i f = go (any (matches start) c.segments) (sym f ∙ e)
+    where
+      go : (b : Bool) → Some i ≡ cond b (Some (first (matches start) c.segments)) None
+          → matched c i sub ≡ cond b (matched c (first (matches start) c.segments) sub) (segment_miss c start sub)
+      go true g = let h : i ≡ first (matches start) c.segments = cc in rw h
+      go false g = cc
 
-  pub lookup-part : i < segment_count → get_or (segment_at c i).present sub false ≡ false
-      → r ≡ with_segment c i (with_flag sub (segment_at c i))
-      → record { kind = SubsegmentMiss; cache = r } ≡ lookup c start sub
-  unfolding lookup
-  lookup-part l t q = rw (q, f, lt-ltb i segment_count l, ← e, t)
+  pub found-lt : (i : ℕ) → r ≡ Some i → length c.segments ≡ segment_count → i < segment_count
+  found-lt i f h = go (any (matches start) c.segments) refl (sym f ∙ e)
+    where
+      go : (b : Bool) → any (matches start) c.segments ≡ b → Some i ≡ cond b (Some (first (matches start) c.segments)) None
+          → i < segment_count
+      go true t g =
+          let k : i ≡ first (matches start) c.segments = cc in
+          omega (arith, ltb-true _ _ (sym (any-first (matches start) c.segments) ∙ t))
+      go false t g = cc
 
-  pub lookup-miss : segment_count ≤ i → r ≡ with_segment c (get_or c.order 0 0) (with_flag sub (no_flags start))
-      → record { kind = SegmentMiss; cache = r } ≡ lookup c start sub
+  pub lookup-missed : r ≡ None → segment_miss c start sub ≡ lookup c start sub
   unfolding lookup
-  lookup-miss l q = rw (q, f, le-ltb i segment_count l)
+  lookup-missed f = go (any (matches start) c.segments) (sym f ∙ e)
+    where
+      go : (b : Bool) → None ≡ cond b (Some (first (matches start) c.segments)) None
+          → segment_miss c start sub ≡ cond b (matched c (first (matches start) c.segments) sub) (segment_miss c start sub)
+      go true g = cc
+      go false g = refl
 
 -- A look-up keeps an accepted state accepted
 

@@ -1,7 +1,9 @@
 -- The instruction cache (scope, "Cache"; 004 section 5.4): what a fetch answers, and the state that
 -- it hands back. A state of the type has four segments of eight flags each, and an order of four.
 -- Assumes nothing.
-use Rattle.std.specs.Prelude.{Bool, true, false, cond, ◌||◌, [], ◌∷◌, ℕ, ◌/◌, ◌%◌, ◌^◌, get_or, set, replicate}
+use Rattle.std.specs.Prelude.{Bool, true, false, cond, ◌||◌, List, [], ◌∷◌, ℕ, ◌/◌, ◌%◌, ◌^◌, get_or, set, replicate, Result, Ok, Err, codes}
+use Rattle.answers.specs.declared.Refused.{Refused}
+use Rattle.answers.specs.declared.Refused.TheVariants.{CacheState}
 use Rattle.control.specs.Control.{disabled}
 use Rattle.lists.specs.Search.{any, first, any_pair}
 use Rattle.segments.specs.declared.Segment.{Segment}
@@ -10,8 +12,7 @@ unfoldable pub use Rattle.order.specs.Order.{latest}
 use Rattle.segments.specs.Segments.{segment_count, flag_count, too_high, clash, matches, no_segment}
 use Rattle.cache.specs.declared.Cache.{Cache}
 use Rattle.cache.specs.declared.Kind.{Kind}
-use Rattle.cache.specs.declared.Kind.TheVariants.{Hit, SubsegmentMiss, SegmentMiss}
-use Rattle.cache.specs.declared.Kind.TheVariants.{Disabled, Refused}
+use Rattle.cache.specs.declared.Kind.TheVariants.{Hit, SubsegmentMiss, SegmentMiss, Disabled}
 use Rattle.cache.specs.declared.Fetched.{Fetched}
 
 -- Refusal 19
@@ -84,23 +85,28 @@ lookup c start sub =
     (segment_miss c start sub)
 
 -- with CD 1 every fetch reports disabled and the state stays; a refused state is refused also with
--- CD 1, and stays
-unfoldable pub fetched : Cache → ℕ → ℕ → Fetched
+-- CD 1, and no next one is handed back
+unfoldable pub fetched : Cache → ℕ → ℕ → Result Fetched Refused
 fetched c address control =
     cond (bad_state c)
-    (record { kind = Refused; cache = c })
+    (Err CacheState)
     (cond (disabled control)
-    (record { kind = Disabled; cache = c })
-    (lookup c (start_address address) (subsegment_of address)))
+    (Ok (record { kind = Disabled; cache = c }))
+    (Ok (lookup c (start_address address) (subsegment_of address))))
 
 -- Fresh: no flags, addresses 0, segment 0 least recent and 3 latest
 abbrev pub fresh_cache : Cache
 fresh_cache = record { segments = replicate segment_count (no_flags 0); order = 0 ∷ 1 ∷ 2 ∷ 3 ∷ [] }
 
--- The answer's number of each kind
-abbrev pub fetch_answer : Kind → ℕ
-fetch_answer Hit = 0
-fetch_answer SubsegmentMiss = 0
-fetch_answer SegmentMiss = 0
-fetch_answer Disabled = 0
-fetch_answer Refused = 19
+-- Of each kind, its number and its name
+abbrev pub kind_number : Kind → ℕ
+kind_number Hit = 0
+kind_number SubsegmentMiss = 1
+kind_number SegmentMiss = 2
+kind_number Disabled = 3
+
+abbrev pub kind_name : Kind → List ℕ
+kind_name Hit = codes "hit"
+kind_name SubsegmentMiss = codes "subsegment miss"
+kind_name SegmentMiss = codes "segment miss"
+kind_name Disabled = codes "disabled"

@@ -1,4 +1,5 @@
-// CONTROL, taken apart. No public function asks anything of its arguments.
+// CONTROL, taken apart. No public function asks anything of its arguments. Each field is one shift
+// and one remainder, so a function of its place and width, to share among them, is no plainer.
 #![tactic(auto)]
 
 ghost use Rattle.std.specs.Prelude.{◌≡◌};

@@ -1,12 +1,14 @@
 -- The scope's "Figures at the edge" that are marked P: one table, with one proof. The definitions
 -- are those that contracts cite. Assumes nothing.
-use Rattle.std.specs.Prelude.{◌≡◌, Bool, true, false, List, [], ◌∷◌, ℕ, ◌%◌}
+use Rattle.std.specs.Prelude.{◌≡◌, Bool, true, false, List, [], ◌∷◌, ℕ, ◌%◌, Result, Ok, Err}
+use Rattle.answers.specs.declared.Refused.{Refused}
 use Rattle.field.specs.Field.{field_read}
 use Rattle.timing.specs.Cycles.{case_of}
 use Rattle.timing.specs.declared.Case.TheVariants.{F}
 use Rattle.image.specs.Image.{image}
 use Rattle.cache.specs.Cache.{fetched, fresh_cache}
 use Rattle.cache.specs.declared.Cache.{Cache}
+use Rattle.cache.specs.declared.Fetched.{Fetched}
 use Rattle.cache.specs.declared.Kind.{Kind}
 use Rattle.cache.specs.declared.Kind.TheVariants.{Hit, SubsegmentMiss, SegmentMiss}
 use Rattle.pixel.specs.PixelOp.{processed}
@@ -35,10 +37,15 @@ abbrev pub two_and_three : List Axis
 two_and_three =
     record { name = 0; values = 0 ∷ 1 ∷ [] } ∷ record { name = 1; values = 0 ∷ 1 ∷ 2 ∷ [] } ∷ []
 
+-- a fetch's kind, and then those over the state that it hands back; a refused one has none
+abbrev pub kind_and : (Cache → List Kind) → Result Fetched Refused → List Kind
+kind_and next (Ok f) = f.kind ∷ next f.cache
+kind_and next (Err r) = []
+
 -- the kinds of a run of fetches with CD 0, each over the state that the one before handed back
 abbrev pub kinds_of : Cache → List ℕ → List Kind
 kinds_of c [] = []
-kinds_of c (a ∷ rest) = let f = fetched c a 0 in f.kind ∷ kinds_of f.cache rest
+kinds_of c (a ∷ rest) = kind_and (λ next. kinds_of next rest) (fetched c a 0)
 
 -- DADDR 004400E4h with DYDX 0014003Ch, and what W=3 keeps of it with
 -- WSTART 004900EBh, WEND 005F0140h

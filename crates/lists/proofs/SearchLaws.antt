@@ -1,6 +1,6 @@
 -- Laws of `specs/Search.antt`. No contract cites this file. Assumes nothing.
 use mathlib.Core.Path.{◌≡◌, refl, sym, ap, fun_ext, ◌∙◌}
-use mathlib.Core.Bool.{Bool, true, false, cond, ◌||◌, or_assoc, or-false}
+use mathlib.Core.Bool.{Bool, true, false, cond, ◌||◌, or_assoc}
 use mathlib.Core.List.{List, [], ◌∷◌, ◌++◌}
 use Prim.Native.Nat.{ℕ, zero, suc, ◌≤◌}
 use native.Mathlib.Omega.{arith}
@@ -9,9 +9,9 @@ use lib.Dec.{ltb, leb-suc-suc}
 use lib.ListN.{length, get_or, set}
 use Rattle.lists.specs.Search.{any, first, any_pair}
 use Rattle.lists.specs.Tabulate.{tabulate}
-use Rattle.lists.proofs.TestLaws.{or-eq-false, or-left-comm, or_swap, suc-cond}
+use Rattle.lists.proofs.TestLaws.{or-eq-false, or-left-comm, or_swap}
 
--- Searches of a list of known length, written out
+-- Lists of known length, and numbers below one
 
 pub tabulate-get_or : {A : Type 0} (n : ℕ) (d : A) (l : List A) → length l ≡ n → l ≡ tabulate n (λ i. get_or l i d)
 tabulate-get_or zero d [] h = refl
@@ -33,32 +33,6 @@ get_d_tabulate (suc n) f d past (suc i) = get_d_tabulate n (λ j. f (suc j)) d (
 abbrev pub any_below : ℕ → (ℕ → Bool) → Bool
 any_below zero p = false
 any_below (suc n) p = any_below n p || p n
-
-any_below-suc : (n : ℕ) (p : ℕ → Bool) → any_below (suc n) p ≡ (p 0 || any_below n (λ i. p (suc i)))
-any_below-suc zero p = sym (or-false (p 0))
-any_below-suc (suc n) p = rw (any_below-suc n p) (or_assoc (p 0) _ _)
-
-any-tabulate : {A : Type 0} (p : A → Bool) (n : ℕ) (f : ℕ → A) → any p (tabulate n f) ≡ any_below n (λ i. p (f i))
-unfolding any
-any-tabulate p zero f = refl
-any-tabulate p (suc n) f = rw (any_below-suc n, any-tabulate p n (λ i. f (suc i)))
-
-pub any-any_below : {A : Type 0} (p : A → Bool) (n : ℕ) (d : A) (l : List A) → length l ≡ n → any p l ≡ any_below n (λ i. p (get_or l i d))
-any-any_below p n d l h = ap (any p) (tabulate-get_or n d l h) ∙ any-tabulate p n _
-
--- the pairs of four elements
-abbrev pub six_pairs : {A : Type 0} → (A → A → Bool) → A → A → A → A → Bool
-six_pairs r a b c d = r a b || r a c || r a d || r b c || r b d || r c d
-
-pub any_pair-four : {A : Type 0} (r : A → A → Bool) (x : A) (l : List A) → length l ≡ 4
-    → any_pair r l ≡ six_pairs r (get_or l 0 x) (get_or l 1 x) (get_or l 2 x) (get_or l 3 x)
-unfolding any any_pair
-any_pair-four r x l h = ap (any_pair r) (tabulate-get_or 4 x l h) ∙ simp (or_assoc, or-false)
-
-pub first-four : {A : Type 0} (p : A → Bool) (x : A) (l : List A) → length l ≡ 4
-    → first p l ≡ cond (p (get_or l 0 x)) 0 (cond (p (get_or l 1 x)) 1 (cond (p (get_or l 2 x)) 2 (cond (p (get_or l 3 x)) 3 4)))
-unfolding first
-first-four p x l h = ap (first p) (tabulate-get_or 4 x l h) ∙ simp suc-cond
 
 -- The first element that passes; no element that passes
 

@@ -1,7 +1,7 @@
 -- Laws of computed tests that the kit lacks. No contract cites this file. Assumes nothing.
 use mathlib.Core.Path.{◌≡◌, refl, sym}
 use mathlib.Core.Bool.{Bool, true, false, true≢false, cond, ◌||◌, or_assoc, or_comm}
-use Prim.Native.Nat.{ℕ, suc}
+use Prim.Native.Nat.{ℕ}
 use borrow.Author.Tests.{eqb-true, eqb-false, eq-eqb, ne_eqb}
 use lib.Dec.{eqb}
 
@@ -35,10 +35,6 @@ cond_both P false x y f g = g refl
 pub cond-zero : (b : Bool) {n m : ℕ} → (n ≡ 0 → ⊥) → cond b n m ≡ 0 → (b ≡ false) × (m ≡ 0)
 cond-zero true h e = absurd (h e)
 cond-zero false h e = (refl, e)
-
-pub suc-cond : (b : Bool) (x y : ℕ) → suc (cond b x y) ≡ cond b (suc x) (suc y)
-suc-cond true x y = refl
-suc-cond false x y = refl
 
 pub eqb_comm : (m n : ℕ) → eqb m n ≡ eqb n m
 eqb_comm m n = go (eqb m n) refl

@@ -14,31 +14,17 @@ const LIMIT: u8 = SEGMENTS as u8;
 pub fn is_bad_order(order: [u8; SEGMENTS]) -> bool
     ensures { result ≡ bad_order order }
 {
-    let a = order[0];
-    let b = order[1];
-    let c = order[2];
-    let d = order[3];
-    let beyond = (LIMIT <= a) | (LIMIT <= b) | (LIMIT <= c) | (LIMIT <= d);
-    let twice = (a == b) | (a == c) | (a == d) | (b == c) | (b == d) | (c == d);
+    let beyond = order.iter().any(|k| LIMIT <= *k);
+    let twice = lists::any_pair(&order, |j, k| j == k);
     beyond | twice
 }
 
 // The order with segment k as the latest used.
-pub fn used(order: [u8; SEGMENTS], k: u8) -> [u8; SEGMENTS]
+pub fn used(mut order: [u8; SEGMENTS], k: u8) -> [u8; SEGMENTS]
     ensures { result ≡ latest k order }
 {
-    let a = order[0];
-    let b = order[1];
-    let c = order[2];
-    let d = order[3];
-    if a == k {
-        return [b, c, d, a];
+    if let Some(at) = order.iter().position(|x| *x == k) {
+        order[at..].rotate_left(1);
     }
-    if b == k {
-        return [a, c, d, b];
-    }
-    if c == k {
-        return [a, b, d, c];
-    }
-    [a, b, c, d]
+    order
 }

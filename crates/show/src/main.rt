@@ -2,7 +2,7 @@
 // fetches of the instruction cache.
 #![tactic(auto)]
 
-use cache::{Cache, Kind};
+use cache::Cache;
 use states::Mode;
 
 fn main(rt: HostRuntime) {
@@ -74,33 +74,23 @@ fn show_image(rt: &impl Print) {
 // Eight fetches from the fresh cache.
 fn show_cache(rt: &impl Print) {
     text(rt, "fetches from the fresh cache\n");
-    let a = shown(rt, Cache::fresh(), 0);
-    let b = shown(rt, a, 64);
-    let c = shown(rt, b, 16);
-    let d = shown(rt, c, 512);
-    let e = shown(rt, d, 1024);
-    let f = shown(rt, e, 1536);
-    let g = shown(rt, f, 2048);
-    shown(rt, g, 0);
+    let mut cache = Cache::fresh();
+    for address in [0u32, 64, 16, 512, 1024, 1536, 2048, 0] {
+        cache = shown(rt, cache, address);
+    }
 }
 
-// One fetch, with its line; the next state.
+// One fetch, with its line; the next state, or the one given where it is refused.
 fn shown(rt: &impl Print, cache: Cache, address: u32) -> Cache {
-    let fetched = cache.fetch(address, 0);
-    text(rt, "  ");
-    number(rt, address as u64);
-    text(rt, "\t");
-    let kind = fetched.kind;
-    name(rt, kind);
-    fetched.cache
-}
-
-fn name(rt: &impl Print, kind: Kind) {
-    match kind {
-        Kind::Hit => text(rt, "hit\n"),
-        Kind::SubsegmentMiss => text(rt, "subsegment miss\n"),
-        Kind::SegmentMiss => text(rt, "segment miss\n"),
-        Kind::Disabled => text(rt, "disabled\n"),
-        Kind::Refused => text(rt, "refused\n"),
+    match cache.fetch(address, 0) {
+        Ok(fetched) => {
+            let kind = fetched.kind;
+            let _ = println!(rt; "  {address}\t{kind}");
+            fetched.cache
+        }
+        Err(_) => {
+            let _ = println!(rt; "  {address}\trefused");
+            cache
+        }
     }
 }

@@ -1,13 +1,13 @@
 -- Demand 1 of the calls by name: a refused call returns its number and changes no word of memory,
 -- no register and no setting. (Each promise settles this already; here it is said of the
 -- definitions that the promises cite.) The proofs are in proofs/Refused.antt. Assumes nothing.
-use Rattle.std.specs.Prelude.{◌≡◌, Bool, true, false, List, ℕ, ◌≤◌, length}
+use Rattle.std.specs.Prelude.{◌≡◌, Bool, true, false, List, ℕ, ◌≤◌, length, Err}
 use Rattle.memory.specs.Bits.{no_memory}
 use Rattle.field.specs.Field as field
 use Rattle.image.specs.Image.{imaged}
 use Rattle.cache.specs.Cache.{bad_state, fetched}
 use Rattle.cache.specs.declared.Cache.{Cache}
-use Rattle.cache.specs.declared.Kind.TheVariants.{Refused}
+use Rattle.answers.specs.declared.Refused.TheVariants.{CacheState}
 use Rattle.settings.specs.declared.Settings.{Settings}
 use Rattle.lone.specs.declared.Lone.{Lone}
 use Rattle.pixt.specs.Pixt.{lone_drawn, pixt_to, pixt_from}
@@ -77,7 +77,7 @@ DravRefused =
       settings = s;
     }
 
--- A field write, an image and a fetch.
+-- A field write, an image and a fetch, which hands back no state.
 abbrev pub WriteRefused : Type 0
 WriteRefused =
     (m : List ℕ) (a n x : ℕ) → (field.field_refusal (length m) a n ≡ 0 → ⊥)
@@ -89,7 +89,7 @@ ImageRefused = (m : List ℕ) (seed : ℕ) → no_memory (length m) ≡ true →
 abbrev pub FetchRefused : Type 0
 FetchRefused =
     (c : Cache) (address control : ℕ) → bad_state c ≡ true
-    → fetched c address control ≡ record { kind = Refused; cache = c }
+    → fetched c address control ≡ Err CacheState
 
 -- Reading a plan: the lent table stays.
 abbrev pub PlanRefused : Type 0

@@ -6,9 +6,10 @@
 ghost use Rattle.std.specs.Prelude.{◌<◌, ◌≤◌};
 ghost use Rattle.io.specs.Counts.{IsPrefixLen};
 
-use cache::{Cache, Kind};
+use cache::Cache;
 use segments::Segment;
 use states::Mode;
+use std::array;
 use std::io::Read;
 
 // Counts are held by the kind's number: 0 for lines of no kind, 8 for all lines.
@@ -155,10 +156,11 @@ fn states_of(n: [u32; 20], mode: Mode) -> bool {
 fn fetch_agrees(n: [u32; 20]) -> bool {
     let given = cache_of(n[1], n[2], n[3], n[4], n[5], n[6]);
     let after = cache_of(n[10], n[11], n[12], n[13], n[14], n[15]);
-    let r = given.fetch(n[7], word(n[8]));
-    let kind = r.kind;
-    let next = r.cache;
-    (kind_number(kind) == n[9]) & same_cache(next, after)
+    let (kind, next) = match given.fetch(n[7], word(n[8])) {
+        Ok(fetched) => (u32::from(fetched.kind), fetched.cache),
+        Err(refused) => (u32::from(refused), given),
+    };
+    (kind == n[9]) & (next == after)
 }
 
 // 6: seed low, seed high, words, word 0..11, answer.
@@ -208,70 +210,18 @@ fn are_words(m: [u16; 4], a: u32, b: u32, c: u32, d: u32) -> bool {
 // A cache state: segment i's eight flags are bits 8i to 8i+7 of flags; the order is four
 // bytes, the least recent lowest.
 fn cache_of(a: u32, b: u32, c: u32, d: u32, flags: u32, order: u32) -> Cache {
-    let segments = [
-        segment(a, flags % 256),
-        segment(b, flags / 256 % 256),
-        segment(c, flags / 65536 % 256),
-        segment(d, flags / 16777216),
-    ];
+    let [p, q, r, s] = flags.to_le_bytes();
     Cache {
-        segments,
-        order: [
-            (order % 256) as u8,
-            (order / 256 % 256) as u8,
-            (order / 65536 % 256) as u8,
-            (order / 16777216) as u8,
-        ],
+        segments: [segment(a, p), segment(b, q), segment(c, r), segment(d, s)],
+        order: order.to_le_bytes(),
     }
 }
 
 // A segment from its start address and eight flags, flag 0 lowest.
-fn segment(start: u32, flags: u32) -> Segment {
+fn segment(start: u32, flags: u8) -> Segment {
     Segment {
         start,
-        present: [
-            flags % 2 == 1,
-            flags / 2 % 2 == 1,
-            flags / 4 % 2 == 1,
-            flags / 8 % 2 == 1,
-            flags / 16 % 2 == 1,
-            flags / 32 % 2 == 1,
-            flags / 64 % 2 == 1,
-            flags / 128 % 2 == 1,
-        ],
-    }
-}
-
-// Are two cache states the same?
-fn same_cache(a: Cache, b: Cache) -> bool {
-    let s = a.segments;
-    let t = b.segments;
-    let p = a.order;
-    let q = b.order;
-    let order = (p[0] == q[0]) & (p[1] == q[1]) & (p[2] == q[2]) & (p[3] == q[3]);
-    order
-        & same_segment(s[0], t[0])
-        & same_segment(s[1], t[1])
-        & same_segment(s[2], t[2])
-        & same_segment(s[3], t[3])
-}
-
-fn same_segment(a: Segment, b: Segment) -> bool {
-    let p = a.present;
-    let q = b.present;
-    let low = (p[0] == q[0]) & (p[1] == q[1]) & (p[2] == q[2]) & (p[3] == q[3]);
-    let high = (p[4] == q[4]) & (p[5] == q[5]) & (p[6] == q[6]) & (p[7] == q[7]);
-    (a.start == b.start) & low & high
-}
-
-// The number of a fetch's kind in a vector.
-fn kind_number(kind: Kind) -> u32 {
-    match kind {
-        Kind::Hit => 0,
-        Kind::SubsegmentMiss => 1,
-        Kind::SegmentMiss => 2,
-        Kind::Disabled => 3,
-        Kind::Refused => 19,
+        present: array::from_fn(|j| (flags >> j) % 2 == 1),
     }
 }
 

@@ -1,8 +1,8 @@
 -- `store_numbers` meets its contract. Assumes nothing.
-use Prim.Native.Nat.{◌-◌}
-use Rattle.c_arrays.proofs.StoreLaws.{finish}
+use Rattle.std.proofs.Common.{arith}
+use Rattle.c_arrays.proofs.StoreLaws.{sets_front}
 use Rattle.c_arrays.proofs.store_numbers.Goals as goal
 
 pub returns : goal.returns
-returns c =
-    finish _ _ _ _ c.loop-i.invariant c.loop-i-test.false
+returns g c =
+    grind (arith, sets_front)

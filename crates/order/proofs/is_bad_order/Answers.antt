@@ -1,13 +1,10 @@
--- `is_bad_order` meets its contract: the four places and their six pairs. Assumes nothing.
-use lib.Dec.{eqb, leb}
-use borrow.Author.Rules.{rules}
-use Rattle.lists.proofs.SearchLaws.{any-any_below, any_pair-four}
+-- `is_bad_order` meets its contract. Assumes nothing.
+use Rattle.std.proofs.Common.{◌||◌, rules, tests, eqb, leb}
 use Rattle.segments.specs.Segments.{segment_count}
+use Rattle.lists.proofs.FoundLaws.{is_any}
 use Rattle.order.proofs.is_bad_order.Goals as goal
 
 pub returns : goal.returns
 returns c =
-    rw (
-      any-any_below (λ k. leb segment_count k) segment_count 0 c.args.order (search rules),
-      any_pair-four eqb 0 c.args.order (search rules),
-    )
+    λ i. is_any (λ k. leb segment_count k) c.args.order _ _ _ _ c.any-beyond.ensures.ran (cc) (λ x b q h. search (rules, tests)) i
+    || c.any_pair-twice.ensures eqb (λ x y b h. search (rules, tests)) i

@@ -1,10 +1,9 @@
--- `any_too_high` meets its contract: the four segments, written out. Assumes nothing.
-use mathlib.Core.Path.{sym}
-use borrow.Author.Rules.{rules}
-use Rattle.lists.proofs.SearchLaws.{any-any_below}
-use Rattle.segments.specs.Segments.{segment_count, no_segment}
+-- `any_too_high` meets its contract. Assumes nothing.
+use Rattle.std.proofs.Common.{rules, tests}
+use Rattle.segments.specs.Segments.{too_high}
+use Rattle.lists.proofs.FoundLaws.{is_any}
 use Rattle.segments.proofs.any_too_high.Goals as goal
 
 pub returns : goal.returns
 returns c =
-    sym (any-any_below _ segment_count no_segment _ (search rules))
+    is_any too_high c.args.segments _ _ _ _ c.any.ensures.ran (cc) (λ x b q k. search (rules, tests))

@@ -18,4 +18,4 @@ pub returns : goal.returns
 returns c =
     let good = sym c.is_bad_state-bad.ensures ∙ c.if-bad.false in
     let on = sym c.disabled-disabled.ensures ∙ c.if-disabled.false in
-    fetched-answer _ _ _ (c.looked_up.ensures ∙ sym (fetched-lookup _ _ _ good on))
+    fetched-answer _ _ _ (rw c.looked_up.ensures (sym (fetched-lookup _ _ _ good on)))

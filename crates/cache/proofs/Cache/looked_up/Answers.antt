@@ -1,22 +1,16 @@
 -- `looked_up` meets its contract, by what the search found. Assumes nothing.
-use Rattle.cache.proofs.CacheLaws.{lookup-hit, lookup-part, lookup-miss, order_lt}
+use Rattle.std.proofs.Common.{◌∙◌, rules}
+use Rattle.cache.proofs.CacheLaws.{found-lt, lookup-matched, lookup-missed}
 use Rattle.cache.proofs.Cache.looked_up.Goals as goal
 
-pub returns-then-flags-sub : goal.returns-then-flags-sub
-returns-then-flags-sub c =
-    let m = c.place-i.ensures in
-    lookup-hit _ _ _ _ m.0 m.1 _ c.if-i-lt-SEGMENTS.true c.if-flags-sub.true c.with_segment-cache.ensures
+pub matched-requires : goal.matched-requires
+matched-requires c =
+    (found-lt c.args.self c.args.start c.args.sub _ c.place.ensures _ c.in-Some.is (search rules), c.requires.0)
 
-pub returns-then-i-lt-SEGMENTS : goal.returns-then-i-lt-SEGMENTS
-returns-then-i-lt-SEGMENTS c =
-    let m = c.place-i.ensures in
-    lookup-part _ _ _ _ m.0 m.1 _ c.if-i-lt-SEGMENTS.true c.if-flags-sub.false c.with_segment-cache-then-i-lt-SEGMENTS.ensures
+pub returns-in-Some : goal.returns-in-Some
+returns-in-Some c =
+    c.matched.ensures ∙ lookup-matched c.args.self c.args.start _ _ c.place.ensures _ c.in-Some.is
 
-pub with_segment-cache-requires-2 : goal.with_segment-cache-requires-2
-with_segment-cache-requires-2 c =
-    order_lt _ _ c.requires.1
-
-pub returns : goal.returns
-returns c =
-    let m = c.place-i.ensures in
-    lookup-miss _ _ _ _ m.0 m.1 _ c.if-i-lt-SEGMENTS.false c.with_segment-cache-2.ensures
+pub returns-in-None : goal.returns-in-None
+returns-in-None c =
+    c.segment_miss.ensures ∙ lookup-missed c.args.self c.args.start _ _ c.place.ensures c.in-None.is
