@@ -17,13 +17,9 @@ pub fn states(words: usize, operation: u32, settings: &[u32], out: &mut [u64]) -
     ensures { FillStatesCall words operation settings.now out.old result
         out.new }
 {
-    if (out.len() < FILL_RESULTS)
-        | ((names::DRAWING_COUNT as u32 <= operation) | c_arrays::bad_settings(settings))
-    {
+    let Some((op, s)) = c_draw::drawing_in(operation, settings, out, FILL_RESULTS) else {
         return BAD_CALL;
-    }
-    let op = operation::operation_of(u64::from(operation));
-    let s = c_arrays::settings_in(settings);
+    };
     let r = fill_timing::fill_states(op, s, words);
     hand_out(out, r.time);
     r.answer
