@@ -95,7 +95,7 @@ fn cached_setup(xy: bool, adjust: Adjust) -> u64
     }
 }
 
-// Its bound is for the sum in `time_of`.
+// Its bound is for the sum in `time_of`. `as`: behind `u64::from` the bound of a field isn't known.
 fn transfer_time(f: Fill) -> u64
     ensures { (result ≡ transfer_time f) × (result < 2 ^ 49) }
 {
