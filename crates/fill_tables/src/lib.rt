@@ -50,7 +50,7 @@ pub struct Fill {
 }
 
 // The time of a FILL in machine states: its parts, and setup and transfer less the adjustment.
-#[derive(Clone, Copy)]
+#[derive(Clone, Copy, Default)]
 pub struct Time {
     pub setup: u64,
     pub transfer: u64,
@@ -78,29 +78,24 @@ fn setup_time(f: Fill) -> u64
 {
     let adjust = f.adjust;
     let cached = cached_setup(f.xy, adjust);
-    if f.disabled {
-        return cached + 3;
-    }
-    cached
+    if f.disabled { cached + 3 } else { cached }
 }
 
 // Table 13-5, without its note.
 fn cached_setup(xy: bool, adjust: Adjust) -> u64
     ensures { result ≡ cond xy (setup_xy adjust) setup_l }
 {
-    if xy {
-        return match adjust {
-            Adjust::Off => 6,
-            Adjust::Fits => 9,
-            Adjust::Start => 16,
-            Adjust::Dimension => 12,
-            Adjust::Both => 20,
-        };
+    match adjust {
+        _ if !xy => 4,
+        Adjust::Off => 6,
+        Adjust::Fits => 9,
+        Adjust::Start => 16,
+        Adjust::Dimension => 12,
+        Adjust::Both => 20,
     }
-    4
 }
 
-// Its bound is for the sum in `time_of`.
+// Its bound is for the sum in `time_of`. `as`: behind `u64::from` the bound of a field isn't known.
 fn transfer_time(f: Fill) -> u64
     ensures { (result ≡ transfer_time f) × (result < 2 ^ 49) }
 {
@@ -114,45 +109,43 @@ fn transfer_time(f: Fill) -> u64
 fn words_of(start: u32, bits: u32) -> u64
     ensures { (result ≡ words_of start bits) × (result ≤ 2 ^ 29) }
 {
-    ((start % 16) as u64 + bits as u64 + 15) / 16
+    (u64::from(start % 16) + u64::from(bits) + 15) / 16
 }
 
 fn alignment_of(start: u32, bits: u32) -> Alignment
     ensures { result ≡ alignment_of start bits }
 {
     let leading = start % 16 == 0;
-    let trailing = ((start % 16) as u64 + bits as u64) % 16 == 0;
-    if leading {
-        return if trailing { Alignment::A } else { Alignment::B };
+    let trailing = (u64::from(start % 16) + u64::from(bits)) % 16 == 0;
+    match (leading, trailing) {
+        (true, true) => Alignment::A,
+        (true, false) => Alignment::B,
+        (false, true) => Alignment::C,
+        (false, false) => Alignment::D,
     }
-    if trailing { Alignment::C } else { Alignment::D }
 }
 
 // Table 13-6: short, medium and long rows.
 fn transfer_entry(n: u64, alignment: Alignment) -> Entry
     ensures { result ≡ transfer_entry (length_of n) alignment }
 {
-    if n <= 1 {
-        return match alignment {
+    match n {
+        0 | 1 => match alignment {
             Alignment::A => Entry { row: 1, end: 2 },
             Alignment::B => Entry { row: 2, end: 2 },
-            Alignment::C => Entry { row: 2, end: 1 },
-            Alignment::D => Entry { row: 2, end: 1 },
-        };
-    }
-    if n == 2 {
-        return match alignment {
+            Alignment::C | Alignment::D => Entry { row: 2, end: 1 },
+        },
+        2 => match alignment {
             Alignment::A => Entry { row: 2, end: 2 },
-            Alignment::B => Entry { row: 3, end: 2 },
+            Alignment::B | Alignment::C => Entry { row: 3, end: 2 },
+            Alignment::D => Entry { row: 4, end: 1 },
+        },
+        _ => match alignment {
+            Alignment::A => Entry { row: 1, end: 2 },
+            Alignment::B => Entry { row: 2, end: 5 },
             Alignment::C => Entry { row: 3, end: 2 },
             Alignment::D => Entry { row: 4, end: 1 },
-        };
-    }
-    match alignment {
-        Alignment::A => Entry { row: 1, end: 2 },
-        Alignment::B => Entry { row: 2, end: 5 },
-        Alignment::C => Entry { row: 3, end: 2 },
-        Alignment::D => Entry { row: 4, end: 1 },
+        },
     }
 }
 
@@ -160,16 +153,12 @@ fn transfer_entry(n: u64, alignment: Alignment) -> Entry
 fn word_states(masked: bool, pp: u16) -> u64
     ensures { result ≡ word_states masked (processing_column pp) }
 {
-    if pp == 0 {
-        return if masked { 4 } else { 2 };
+    match pp {
+        0 => if masked { 4 } else { 2 },
+        1..=16 => if masked { 6 } else { 4 },
+        19 => if masked { 8 } else { 6 },
+        _ => if masked { 7 } else { 5 },
     }
-    if pp <= 16 {
-        return if masked { 6 } else { 4 };
-    }
-    if pp == 19 {
-        return if masked { 8 } else { 6 };
-    }
-    if masked { 7 } else { 5 }
 }
 
 // With plane masking or transparency only.
@@ -177,9 +166,10 @@ fn adjustment_of(f: Fill) -> u64
     ensures { result ≡ adjustment f }
 {
     if f.masked {
-        return edge_states(alignment_of(f.start, f.bits)) * (f.rows as u64);
+        edge_states(alignment_of(f.start, f.bits)) * (f.rows as u64)
+    } else {
+        0
     }
-    0
 }
 
 // The adjustment of a row.
@@ -188,8 +178,7 @@ fn edge_states(alignment: Alignment) -> u64
 {
     match alignment {
         Alignment::A => 0,
-        Alignment::B => 2,
-        Alignment::C => 2,
+        Alignment::B | Alignment::C => 2,
         Alignment::D => 4,
     }
 }

@@ -37,12 +37,7 @@ pub fn fill_time(op: Operation, s: Settings, visited: u64) -> Time
 {
     let copy = operation::copies(operation::source_of(op));
     if copy | (visited == 0) {
-        return Time {
-            setup: 0,
-            transfer: 0,
-            adjustment: 0,
-            states: 0,
-        };
+        return Time::default();
     }
     fill_tables::time_of(fill_of(op, s))
 }
@@ -85,11 +80,12 @@ fn adjust_of(w: u16, r: Rectangle, c: Clipped) -> Adjust
     if w == 0 {
         return Adjust::Off;
     }
-    let end = end_moved(r, c);
-    if start_moved(c) {
-        return if end { Adjust::Both } else { Adjust::Start };
+    match (start_moved(c), end_moved(r, c)) {
+        (true, true) => Adjust::Both,
+        (true, false) => Adjust::Start,
+        (false, true) => Adjust::Dimension,
+        (false, false) => Adjust::Fits,
     }
-    if end { Adjust::Dimension } else { Adjust::Fits }
 }
 
 fn start_moved(c: Clipped) -> bool

@@ -4,18 +4,18 @@ use Rattle.std.proofs.lemmas.Grind.{common_steps}
 use Rattle.fill_tables.specs.Time.{alignment_of}
 use Rattle.fill_tables.proofs.alignment_of.Goals as goal
 
-pub returns-then-trailing : goal.returns-then-trailing
+pub returns-in-true-true : goal.returns-in-true-true
 unfolding alignment_of
-returns-then-trailing c = grind (arith, common_steps)
+returns-in-true-true c = grind (arith, common_steps)
 
-pub returns-else-trailing : goal.returns-else-trailing
+pub returns-in-true-false : goal.returns-in-true-false
 unfolding alignment_of
-returns-else-trailing c = grind (arith, common_steps)
+returns-in-true-false c = grind (arith, common_steps)
 
-pub returns-then-trailing-2 : goal.returns-then-trailing-2
+pub returns-in-false-true : goal.returns-in-false-true
 unfolding alignment_of
-returns-then-trailing-2 c = grind (arith, common_steps)
+returns-in-false-true c = grind (arith, common_steps)
 
-pub returns-else-trailing-2 : goal.returns-else-trailing-2
+pub returns-in-false-false : goal.returns-in-false-false
 unfolding alignment_of
-returns-else-trailing-2 c = grind (arith, common_steps)
+returns-in-false-false c = grind (arith, common_steps)
