@@ -68,13 +68,23 @@ fn at(sweep: Program<'_>) -> Result<Asked, Stop> {
     at_in(sweep, Form::Results, 2)
 }
 
-// The plan of --at is a file: standard input has the points.
+// The same in a form, with the plan in an argument.
 fn at_in(sweep: Program<'_>, form: Form, plan: usize) -> Result<Asked, Stop> {
-    whole(sweep, plan)?;
+    if let Err(stop) = whole(sweep, plan) {
+        // a program of the name `-` is told this too: what is written may not change
+        in_file(sweep, 0)?;
+        return Err(stop);
+    }
+    in_file(sweep, plan)?;
+    Ok(Asked::Plan(plan, Task::At(form)))
+}
+
+// The plan of --at is a file: standard input has the points.
+fn in_file(sweep: Program<'_>, plan: usize) -> Result<(), Stop> {
     if is(sweep.rt, plan, b"-") {
         return Err(sweep.error(b"--at takes PLAN from a file, and points from standard input\n"));
     }
-    Ok(Asked::Plan(plan, Task::At(form)))
+    Ok(())
 }
 
 // How many arguments there are, where one names the plan.
