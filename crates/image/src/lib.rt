@@ -30,8 +30,7 @@ pub fn fill_image(memory: &mut [u16], seed: u64) -> Result<(), Refused>
 }
 
 // Four words of each draw, lowest first, cut off at the memory's end. One generator is lent to
-// every draw. A loop by places: a proof knows no words of the parts that `chunks_mut` lends.
-// By index: behind `chunks_mut` a proof knows a slice's length alone.
+// every draw. By index: behind `chunks_mut` a proof knows a slice's length alone.
 fn fill(memory: &mut [u16], seed: u64)
     ensures { memory.new ≡ image (length memory.old) seed }
 {
