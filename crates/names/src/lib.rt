@@ -12,7 +12,7 @@ pub const COUNT: usize = 14;
 
 pub const SETTINGS: usize = 13;
 
-// The numbers of the names.
+// The numbers of the names: no enum, as they are places in the table of specs/ and in lists.
 pub const SADDR: usize = 0;
 
 pub const SPTCH: usize = 1;
