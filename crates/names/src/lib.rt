@@ -12,8 +12,7 @@ pub const COUNT: usize = 14;
 
 pub const SETTINGS: usize = 13;
 
-// The numbers of the names: places in the table `names` of specs/ and in every list of values, so
-// that an enum would be turned into its number wherever it is used.
+// The numbers of the names: no enum, as they are places in the table of specs/ and in lists.
 pub const SADDR: usize = 0;
 
 pub const SPTCH: usize = 1;

@@ -80,7 +80,7 @@ pub fn common_of(r: Rectangle, w: Window) -> Rectangle
     }
 }
 
-// What is drawn of a rectangle under W, a number, as the definition and its theorems go by it.
+// What is drawn of a rectangle under W, a number, as `clipped` and the theorems on windows say it.
 #[tactic(auto, unfolding(crate::specs::Window::clipped))]
 pub fn clip(w: u16, r: Rectangle, window: Window) -> Clipped
     ensures { result ≡ clipped w r window }
