@@ -100,7 +100,7 @@ fn replace(word: u16, address: u32, planes: u32, res: u32) -> u16
 }
 
 // The operation PP, in the scope's order; by its number, as `processed` and its theorems say it.
-#[tactic(auto, unfolding(pixel::specs::PixelOp::processed, pixel::specs::PixelOp::pixel_operations))]
+#[tactic(auto, unfolding(crate::specs::Word::processed, crate::specs::Word::pixel_operations))]
 fn process(w: Drawing, top: u32, s: u32, d: u32) -> u32
     requires { (top ≡ top_of w.psize) × (s ≤ top) × (d ≤ top) }
     ensures { result ≡ processed w.pp top s d }
@@ -124,7 +124,7 @@ fn process(w: Drawing, top: u32, s: u32, d: u32) -> u32
         14 => (s & d) ^ top,
         15 => s ^ top,
         16 => add(w, top, s, d),
-        17 => (s + d).min(top),
+        17 => add_saturated(top, s, d),
         18 => subtract(w, top, s, d),
         19 => d.saturating_sub(s),
         20 => s.max(d),
@@ -140,6 +140,14 @@ fn add(w: Drawing, top: u32, s: u32, d: u32) -> u32
     ensures { result ≡ (s + d) % suc top }
 {
     (s + d) & top
+}
+
+// PP 17: the lesser of S + D and top.
+fn add_saturated(top: u32, s: u32, d: u32) -> u32
+    requires { (s ≤ top) × (d ≤ top) × (top < 2 ^ 16) }
+    ensures { result ≡ min (s + d) top }
+{
+    s + d.min(top - s)
 }
 
 // PP 18: D - S mod 2^P.

@@ -26,12 +26,11 @@ fetch-accepted c address control l ok = go (disabled control) refl
   where
     go : (b : Bool) → disabled control ≡ b → (f : Fetched) × (fetched c address control ≡ Ok f) × (bad_state f.cache ≡ false)
     go true d = (record { kind = Disabled; cache = c }, fetched-disabled c address control ok d, ok)
-    go false d =
-        (
-          lookup c (start_address address) (subsegment_of address),
-          fetched-lookup c address control ok d,
-          not-refused (lookup-accepted c (accepted c ok) _ _ (omega arith)),
-        )
+    go false d = (
+      lookup c (start_address address) (subsegment_of address),
+      fetched-lookup c address control ok d,
+      not-refused (lookup-accepted c (accepted c ok) _ _ (omega arith)),
+    )
 
 -- 19 is the number of a refused state alone
 of-refusal : (r : Bool) → ◌≡◌ {A = ℕ} (cond r 19 0) 19 → r ≡ true

@@ -52,7 +52,7 @@ image-refused m seed e = rw e
 
 pub fetch-refused : FetchRefused
 unfolding fetched
-fetch-refused c address control e = rw e
+fetch-refused c address control e = rw e (refl, refl)
 
 pub plan-refused : PlanRefused
 plan-refused text t = table_after-refused text t

@@ -9,6 +9,7 @@ use Rattle.field.specs.Field as field
 use Rattle.image.specs.Image.{imaged}
 use Rattle.cache.specs.Cache.{bad_state, fetched}
 use Rattle.cache.specs.declared.Cache.{Cache}
+use Rattle.cache.specs.declared.Fetched.{Fetched}
 use Rattle.answers.specs.declared.Refused.TheVariants.{CacheState}
 use Rattle.settings.specs.declared.Settings.{Settings}
 use Rattle.lone.specs.declared.Lone.{Lone}
@@ -83,7 +84,7 @@ DravRefused =
       settings = s;
     })
 
--- A field write, an image and a fetch, which hands back no state.
+-- A field write, an image and a fetch, after which the cache is in the state as given.
 abbrev pub WriteRefused : Type 0
 WriteRefused =
     (m : List ℕ) (a n x : ℕ) → (field.field_refusal (length m) a n ≡ Ok tt → ⊥)
@@ -92,10 +93,16 @@ WriteRefused =
 abbrev pub ImageRefused : Type 0
 ImageRefused = (m : List ℕ) (seed : ℕ) → no_memory (length m) ≡ true → imaged m seed ≡ m
 
+-- the state after a fetch: that of a refused one stays
+abbrev pub cache_left : Cache → Result Fetched answers.Refused → Cache
+cache_left c (Ok f) = f.cache
+cache_left c (Err r) = c
+
 abbrev pub FetchRefused : Type 0
 FetchRefused =
     (c : Cache) (address control : ℕ) → bad_state c ≡ true
-    → fetched c address control ≡ Err CacheState
+    → (fetched c address control ≡ Err CacheState)
+    × (cache_left c (fetched c address control) ≡ c)
 
 -- Reading a plan: the lent table stays.
 abbrev pub PlanRefused : Type 0

@@ -10,9 +10,8 @@ use answers::answer;
 use cache::Cache;
 use segments::Segment;
 use states::Mode;
-use std::array;
-use std::fmt;
 use std::io::Read;
+use std::{array, fmt};
 use timing::Cycles;
 
 // A line has so many bytes.

@@ -11,7 +11,7 @@ pub returns : goal.returns
 unfolding cache_of
 returns c =
     let l : c.from_fn.result ≡ (cache_of c.args.state.now).segments =
-        tabulate-get_or segment_count no_segment _ c.from_fn.ensures.items.long ∙ search rules in
+    tabulate-get_or segment_count no_segment _ c.from_fn.ensures.items.long ∙ search rules in
     let m : c.from_fn-2.result ≡ (cache_of c.args.state.now).order =
-        tabulate-get_or segment_count 0 _ c.from_fn-2.ensures.items.long ∙ search rules in
+    tabulate-get_or segment_count 0 _ c.from_fn-2.ensures.items.long ∙ search rules in
     λ i. record { segments = l i; order = m i }

@@ -9,6 +9,6 @@ use Rattle.c_state.proofs.segment_of.Goals as goal
 pub returns : goal.returns
 returns c =
     let l : c.from_fn.result ≡ flags_of c.args.flags =
-        tabulate-get_or flag_count false _ c.from_fn.ensures.items.long ∙ search rules in
+    tabulate-get_or flag_count false _ c.from_fn.ensures.items.long ∙ search rules in
     let P : List Bool → Segment = λ p. record { start = c.args.start; present = p } in
     ap P l

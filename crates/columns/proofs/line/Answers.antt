@@ -48,6 +48,6 @@ returns c =
     let n = length-map cs held_text in
     let p = c.column.ensures in
     let d = texted-end (map held_text cs) c.args.text.now c.requires.room _ _ _ c.loop-c.invariant _
-        (text-at cs 26 _ last (omega arith)) _ _
+    (text-at cs 26 _ last (omega arith)) _ _
     (omega arith) p.value p.out_after in
     record { value = d.0; text_after = d.1 }
