@@ -32,10 +32,6 @@ pub cond_both : {A : Type 0} (P : A → Type 0) (b : Bool) (x y : A) → (b ≡ 
 cond_both P true x y f g = f refl
 cond_both P false x y f g = g refl
 
-pub cond-zero : (b : Bool) {n m : ℕ} → (n ≡ 0 → ⊥) → cond b n m ≡ 0 → (b ≡ false) × (m ≡ 0)
-cond-zero true h e = absurd (h e)
-cond-zero false h e = (refl, e)
-
 pub suc-cond : (b : Bool) (x y : ℕ) → suc (cond b x y) ≡ cond b (suc x) (suc y)
 suc-cond true x y = refl
 suc-cond false x y = refl

@@ -14,7 +14,7 @@ use Rattle.text.specs.Text.{up_to}
 use Rattle.text.proofs.TextLaws.{part-end-le, parts-before, parts_last}
 use Rattle.plan.specs.declared.Cursor.{Cursor}
 use Rattle.plan.specs.Reading.{Line, skipped, kept_lines}
-use Rattle.plan.specs.Cursor.{line_at, lines_from, skipped_at, PositionIn, FoundLine, NextLine}
+use Rattle.plan.specs.Cursor.{line_at, lines_from, skipped_at, FoundLine, NextLine}
 use Rattle.plan.proofs.ReadingLaws.{parts-some, kept-some, kept-skip, kept-keep, kept-last}
 
 -- The test of a line
