@@ -1,8 +1,9 @@
 -- Plans for C: bad arguments, what is read as five results, and the promises of the calls. Assumes
 -- nothing.
-use Rattle.std.specs.Prelude.{◌≡◌, Bool, cond, ◌||◌, List, [], ◌∷◌, ℕ, length}
+use Rattle.std.specs.Prelude.{◌≡◌, Bool, cond, ◌||◌, Result, Ok, Err, List, [], ◌∷◌, ℕ, length}
 use Rattle.plan.specs.declared.Plan.{Plan}
-use Rattle.plan.specs.Table.{room, plan_of, table_after}
+use Rattle.plan.specs.declared.BadPlan.{BadPlan}
+use Rattle.plan.specs.Table.{room, plan_of, plan_answer, table_after}
 use Rattle.listing.specs.Listing.{put}
 use Rattle.run.specs.Lines.{bad_shape, answer_of, written, image_after, memory_after}
 use Rattle.c_arrays.specs.Out.{short, answered, stored_out}
@@ -15,15 +16,16 @@ plan_result_count = 5
 abbrev pub bad_read : List ℕ → List ℕ → Bool
 bad_read table out = short room table || short plan_result_count out
 
--- the line of the refusal, the memory's words, the drawing's number, and how many axes and points
--- there are
-abbrev pub plan_results : Plan → List ℕ
-plan_results p = p.line ∷ p.words ∷ p.draw ∷ p.axes ∷ p.points ∷ []
+-- the line of the refusal, 0 where there is none; the memory's words, the drawing's number, and how
+-- many axes and points there are, zeros of a refused plan
+abbrev pub plan_results : Result Plan BadPlan → List ℕ
+plan_results (Ok p) = 0 ∷ p.words ∷ p.draw ∷ p.axes ∷ p.points ∷ []
+plan_results (Err bad) = bad.line ∷ 0 ∷ 0 ∷ 0 ∷ 0 ∷ []
 
 -- the promise of `read`: what it answers, and what it leaves in the table and the output array
 pub record PlanReadCall (text table out : List ℕ)
     (answer : ℕ) (table' out' : List ℕ) : Type 0 where
-  pub answers : answer ≡ answered (bad_read table out) (plan_of text (length table)).answer
+  pub answers : answer ≡ answered (bad_read table out) (plan_answer (plan_of text (length table)))
   pub out-is :
       out' ≡ stored_out (bad_read table out) out (plan_results (plan_of text (length table)))
   pub table_is : table' ≡ cond (bad_read table out) table (table_after text table)

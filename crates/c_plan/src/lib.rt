@@ -7,7 +7,7 @@ ghost use Rattle.std.proofs.lemmas.List.Edits.{sets};
 ghost use Rattle.c_plan.specs.Plan.{plan_result_count, plan_results, PlanReadCall, LinesCall};
 
 use c_arrays::BAD_CALL;
-use plan::{Plan, ROOM};
+use plan::{BadPlan, Plan, ROOM};
 
 // How many results of reading there are (`plan_result_count` of the specs).
 pub const PLAN_RESULTS: usize = 5;
@@ -21,17 +21,30 @@ pub fn read(text: &[u8], table: &mut [u64], out: &mut [u64]) -> u32
     if (table.len() < ROOM) | (out.len() < PLAN_RESULTS) {
         return BAD_CALL;
     }
-    let plan = plan::read(text, table);
-    hand_out(out, plan);
-    plan.answer
+    let done = plan::read(text, table);
+    hand_out(out, done);
+    match done {
+        Ok(_) => 0,
+        Err(bad) => u32::from(bad.refused),
+    }
 }
 
 // Stores the results at the array's start.
-fn hand_out(out: &mut [u64], plan: Plan)
+fn hand_out(out: &mut [u64], done: Result<Plan, BadPlan>)
     requires { plan_result_count ≤ length out.old }
-    ensures { out.new ≡ sets out.old 0 (plan_results plan) }
+    ensures { out.new ≡ sets out.old 0 (plan_results done) }
 {
-    out[0] = plan.line;
+    let none = Plan {
+        words: 0,
+        draw: 0,
+        axes: 0,
+        points: 0,
+    };
+    let (line, plan) = match done {
+        Ok(plan) => (0, plan),
+        Err(bad) => (bad.line, none),
+    };
+    out[0] = line;
     out[1] = plan.words;
     out[2] = plan.draw;
     out[3] = plan.axes;

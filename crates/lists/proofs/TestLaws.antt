@@ -32,10 +32,6 @@ pub cond_both : {A : Type 0} (P : A → Type 0) (b : Bool) (x y : A) → (b ≡ 
 cond_both P true x y f g = f refl
 cond_both P false x y f g = g refl
 
-pub cond-zero : (b : Bool) {n m : ℕ} → (n ≡ 0 → ⊥) → cond b n m ≡ 0 → (b ≡ false) × (m ≡ 0)
-cond-zero true h e = absurd (h e)
-cond-zero false h e = (refl, e)
-
 pub eqb_comm : (m n : ℕ) → eqb m n ≡ eqb n m
 eqb_comm m n = go (eqb m n) refl
   where

@@ -1,5 +1,5 @@
 -- What is known of an axis line that is not refused. No contract cites this file. Assumes nothing.
-use mathlib.Core.Path.{◌≡◌, refl, ◌∙◌}
+use mathlib.Core.Path.{◌≡◌, refl}
 use mathlib.Core.Bool.{Bool, true, false, true≢false, cond}
 use mathlib.Core.List.{List, [], ◌∷◌}
 use Prim.Native.Nat.{ℕ, ◌<◌, ◌≤◌}
@@ -8,12 +8,11 @@ use borrow.Author.Tests.{ltb-false, leb-false}
 use lib.Dec.{eqb}
 use lib.ListN.{length}
 use Rattle.std.specs.Prelude.{Result, Ok, Err}
-use Rattle.answers.specs.Answer.{answer, refusal_number}
 use Rattle.answers.specs.declared.Refused.{Refused}
 use Rattle.answers.specs.declared.Refused.TheVariants.{Form, Name, Value, Count}
 use Rattle.axis.specs.declared.AxisLine.{AxisLine}
 use Rattle.lists.specs.Search.{any}
-use Rattle.lists.proofs.TestLaws.{or-eq-false, cond-zero}
+use Rattle.lists.proofs.TestLaws.{or-eq-false}
 use Rattle.names.specs.Names.{name_count}
 use Rattle.points.specs.Axes.{Axis, axis_length, most_axes, most_values}
 use Rattle.points.specs.OneToOne.{too_large, repeats}
@@ -38,48 +37,39 @@ some-values (word ∷ name ∷ []) e = absurd (true≢false e)
 some-values (word ∷ name ∷ v ∷ vs) e = omega arith
 
 -- a test that is passed, and what is left of the line where all are
-answer-cond : {A : Type 0} (b : Bool) (r : Refused) (x : Result A Refused)
-    → cond b (refusal_number r) (answer x) ≡ answer (cond b (Err r) x)
-answer-cond true r x = refl
-answer-cond false r x = refl
+passed : {A : Type 0} (b : Bool) (r : Refused) {x : Result A Refused} {a : A} → cond b (Err r) x ≡ Ok a → (b ≡ false) × (x ≡ Ok a)
+passed true r e = let z : ◌≡◌ {A = ℕ} 0 1 = cc in absurd (omega arith)
+passed false r e = (refl, e)
 
-passed : {A : Type 0} (b : Bool) (r : Refused) (x : Result A Refused) → (refusal_number r ≡ 0 → ⊥) → answer (cond b (Err r) x) ≡ 0
-    → (b ≡ false) × (answer x ≡ 0)
-passed b r x n e = cond-zero b n (answer-cond b r x ∙ e)
+module _ (came : ℕ → Bool) (axes : ℕ) (fields : List (List ℕ)) (a : AxisLine) (e : axis_line came axes fields ≡ Ok a) where
+  pub taken-is : record { name = name_of fields; count = axis_length (axis_of fields) } ≡ a
+  unfolding axis_line
+  taken-is =
+      let (form, e21) = passed (bad_form fields) Form e in
+      let (named, e22) = passed (bad_name came (name_of fields)) Name e21 in
+      let (valued, e23) = passed (bad_values (axis_of fields)) Value e22 in
+      let (many, e24) = passed (too_many axes (axis_of fields)) Count e23 in
+      cc
 
-cond-ok : {A : Type 0} (b : Bool) (r : Refused) {x : Result A Refused} {a : A} → cond b (Err r) x ≡ Ok a → x ≡ Ok a
-cond-ok true r e = let z : ◌≡◌ {A = ℕ} 0 1 = cc in absurd (omega arith)
-cond-ok false r e = e
-
-pub taken-is : (came : ℕ → Bool) (axes : ℕ) (fields : List (List ℕ)) (a : AxisLine) → axis_line came axes fields ≡ Ok a
-    → record { name = name_of fields; count = axis_length (axis_of fields) } ≡ a
-unfolding axis_line
-taken-is came axes fields a e =
-    let form = cond-ok (bad_form fields) Form e in
-    let named = cond-ok (bad_name came (name_of fields)) Name form in
-    let valued = cond-ok (bad_values (axis_of fields)) Value named in
-    let many = cond-ok (too_many axes (axis_of fields)) Count valued in
-    cc
-
-pub good : (came : ℕ → Bool) (axes : ℕ) (fields : List (List ℕ)) → answer (axis_line came axes fields) ≡ 0 → Good came axes fields
-unfolding axis_line
-good came axes fields e =
-    let (form, e21) = passed (bad_form fields) Form _ (λ z. omega arith) e in
-    let (named, e22) = passed (bad_name came (name_of fields)) Name _ (λ z. omega arith) e21 in
-    let (valued, e23) = passed (bad_values (axis_of fields)) Value _ (λ z. omega arith) e22 in
-    let (many, e24) = passed (too_many axes (axis_of fields)) Count _ (λ z. omega arith) e23 in
-    let (unknown, new) = or-eq-false _ _ named in
-    let (below, once) = or-eq-false _ _ valued in
-    let (axes8, values64) = or-eq-false _ _ many in
-    record {
-      known = leb-false _ _ unknown;
-      new = new;
-      below = below;
-      once = once;
-      some = some-values fields form;
-      few = ltb-false _ _ values64;
-      room = leb-false _ _ axes8;
-    }
+  pub good : Good came axes fields
+  unfolding axis_line
+  good =
+      let (form, e21) = passed (bad_form fields) Form e in
+      let (named, e22) = passed (bad_name came (name_of fields)) Name e21 in
+      let (valued, e23) = passed (bad_values (axis_of fields)) Value e22 in
+      let (many, e24) = passed (too_many axes (axis_of fields)) Count e23 in
+      let (unknown, new) = or-eq-false _ _ named in
+      let (below, once) = or-eq-false _ _ valued in
+      let (axes8, values64) = or-eq-false _ _ many in
+      record {
+        known = leb-false _ _ unknown;
+        new = new;
+        below = below;
+        once = once;
+        some = some-values fields form;
+        few = ltb-false _ _ values64;
+        room = leb-false _ _ axes8;
+      }
 
 -- after these axes
 
@@ -89,5 +79,5 @@ came_on axes name = any (λ (a : Axis). eqb a.name name) axes
 abbrev pub GoodOn : List Axis → List (List ℕ) → Type 0
 GoodOn axes fields = Good (came_on axes) (length axes) fields
 
-pub good-on : (axes : List Axis) (fields : List (List ℕ)) → answer (axis_after axes fields) ≡ 0 → GoodOn axes fields
-good-on axes fields = good (came_on axes) (length axes) fields
+pub good-on : (axes : List Axis) (fields : List (List ℕ)) {a : AxisLine} → axis_after axes fields ≡ Ok a → GoodOn axes fields
+good-on axes fields e = good (came_on axes) (length axes) fields _ e

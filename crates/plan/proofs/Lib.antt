@@ -5,7 +5,6 @@ pub mod TableLaws
 pub mod SoundLaws
 pub mod StateLaws
 pub mod TurnLaws
-pub mod ReadLaws
 pub mod StoreLaws
 pub mod AcceptedLaws
 pub mod PlanLaws

@@ -7,12 +7,16 @@ use native.Mathlib.Omega.{arith}
 use borrow.Author.Tests.{eq-eqb, ne_eqb, lt-ltb, le-ltb}
 use lib.Dec.{eqb}
 use lib.ListN.{length}
-use Rattle.answers.specs.Answer.{answer}
+use Rattle.std.specs.Prelude.{Result, Ok, Err}
+use Rattle.answers.specs.declared.Refused.{Refused}
+use Rattle.answers.specs.declared.Refused.TheVariants.{Form}
 use Rattle.text.specs.Text.{in_front, parts, fields_of}
 use Rattle.points.specs.Axes.{Axis}
 use Rattle.line.specs.Line.{memory_of, draw_of}
 use Rattle.axis.specs.Axis.{axis_of, axis_after}
-use Rattle.plan.specs.Reading.{Line, skipped, kept_lines, accepted_reading, refused_at, read_axes, read_draw, read_memory}
+use Rattle.axis.specs.declared.AxisLine.{AxisLine}
+use Rattle.plan.specs.declared.BadPlan.{BadPlan}
+use Rattle.plan.specs.Reading.{Line, skipped, kept_lines, accepted_reading, refused_at, unless_refused, read_axes, read_draw, read_memory}
 use Rattle.lists.proofs.TestLaws.{cond_both}
 
 -- There is always a line
@@ -55,11 +59,11 @@ module _ (n : ℕ) (l : List ℕ) where
 -- A memory line, a draw line, an axis line
 
 module _ (l : Line) where
-  pub memory-last : read_memory (l ∷ []) ≡ refused_at 20 l.number
+  pub memory-last : read_memory (l ∷ []) ≡ refused_at Form l.number
   unfolding read_memory
   memory-last = refl
 
-  pub memory-bad : (ls : List Line) → memory_of (fields_of l.bytes) ≡ 0 → read_memory (l ∷ ls) ≡ refused_at 20 l.number
+  pub memory-bad : (ls : List Line) → memory_of (fields_of l.bytes) ≡ 0 → read_memory (l ∷ ls) ≡ refused_at Form l.number
   unfolding read_memory
   memory-bad [] e = refl
   memory-bad (m ∷ ls) e = rw (eq-eqb _ _ e)
@@ -71,11 +75,11 @@ module _ (l : Line) where
   memory-next (m ∷ ls) h n = rw (ne_eqb _ _ n)
 
 module _ (words : ℕ) (l : Line) where
-  pub draw-last : read_draw words (l ∷ []) ≡ refused_at 20 l.number
+  pub draw-last : read_draw words (l ∷ []) ≡ refused_at Form l.number
   unfolding read_draw
   draw-last = refl
 
-  pub draw-bad : (ls : List Line) → 8 ≤ draw_of (fields_of l.bytes) → read_draw words (l ∷ ls) ≡ refused_at 20 l.number
+  pub draw-bad : (ls : List Line) → 8 ≤ draw_of (fields_of l.bytes) → read_draw words (l ∷ ls) ≡ refused_at Form l.number
   unfolding read_draw
   draw-bad [] h = refl
   draw-bad (m ∷ ls) h = rw (le-ltb _ _ h)
@@ -91,18 +95,25 @@ module _ (words draw : ℕ) (axes : List Axis) (l : Line) where
   unfolding read_axes
   axes-end e = rw (eq-eqb _ _ e)
 
-  pub axes-last : (length l.bytes ≡ 0 → ⊥) → read_axes words draw axes (l ∷ []) ≡ refused_at 20 l.number
+  pub axes-last : (length l.bytes ≡ 0 → ⊥) → read_axes words draw axes (l ∷ []) ≡ refused_at Form l.number
   unfolding read_axes
   axes-last n = rw (ne_eqb _ _ n)
 
-  pub axes-bad : (ls : List Line) → 0 < length ls → (answer (axis_after axes (fields_of l.bytes)) ≡ 0 → ⊥)
-      → read_axes words draw axes (l ∷ ls) ≡ refused_at (answer (axis_after axes (fields_of l.bytes))) l.number
+  pub axes-bad : (ls : List Line) → 0 < length ls → {r : Refused} → axis_after axes (fields_of l.bytes) ≡ Err r
+      → read_axes words draw axes (l ∷ ls) ≡ refused_at r l.number
   unfolding read_axes
-  axes-bad [] h n = absurd (omega arith)
-  axes-bad (m ∷ ls) h n = rw (ne_eqb _ _ n)
+  axes-bad [] h e = absurd (omega arith)
+  axes-bad (m ∷ ls) h e = rw e
 
-  pub axes-next : (ls : List Line) → 0 < length ls → answer (axis_after axes (fields_of l.bytes)) ≡ 0
+  pub axes-next : (ls : List Line) → 0 < length ls → {a : AxisLine} → axis_after axes (fields_of l.bytes) ≡ Ok a
       → read_axes words draw axes (l ∷ ls) ≡ read_axes words draw (axes ++ (axis_of (fields_of l.bytes) ∷ [])) ls
   unfolding read_axes
   axes-next [] h e = absurd (omega arith)
-  axes-next (m ∷ ls) h e = rw (eq-eqb _ _ e)
+  axes-next (m ∷ ls) h e = rw e
+
+-- A line's refusal, or what follows from the lines behind it
+
+pub unless_refused-both : {A B : Type 0} (P : Result B BadPlan → Type 0) (x : Result A Refused) (line : ℕ) (behind : Result B BadPlan)
+    → ((a : A) → x ≡ Ok a → P behind) → ((r : Refused) → x ≡ Err r → P (refused_at r line)) → P (unless_refused x line behind)
+unless_refused-both P (Ok a) line behind f g = f a refl
+unless_refused-both P (Err r) line behind f g = g r refl

@@ -10,7 +10,7 @@ use borrow.Author.Tests.{eqb-true, eqb-false}
 use lib.Dec.{eqb}
 use lib.ListN.{length, get_or, set, take, replicate, length-set, length-append}
 use lib.Seq.{get_or-set_same, get_or-set_other, take-suc-set}
-use Rattle.answers.specs.Answer.{answer}
+use Rattle.std.specs.Prelude.{Ok}
 use Rattle.lists.specs.Search.{any}
 use Rattle.lists.proofs.SearchLaws.{any_snoc}
 use Rattle.names.specs.Names.{name_count}
@@ -19,10 +19,11 @@ use Rattle.points.proofs.PointsLaws.{count-le}
 use Rattle.text.specs.Text.{fields_of}
 use Rattle.line.specs.Line.{name_of}
 use Rattle.axis.specs.Axis.{axis_of, axis_line, axis_after}
+use Rattle.axis.specs.declared.AxisLine.{AxisLine}
 use Rattle.plan.specs.declared.State.{State}
 use Rattle.plan.specs.Table.{accepted_plan}
 use Rattle.plan.specs.Cursor.{line_at}
-use Rattle.plan.specs.State.{nothing_read, going, held_refusal, held_after, axes_from, HoldsAxes}
+use Rattle.plan.specs.State.{nothing_read, with_plan, held_axis, held_after, axes_from, HoldsAxes}
 use Rattle.plan.proofs.AxisLaws.{good-on}
 use Rattle.plan.proofs.SoundLaws.{sound_none, sound-next}
 
@@ -48,7 +49,7 @@ holds-none text =
 
 -- with another plan of no axes
 pub holds-going : {text : List ℕ} {s : State} (words draw : ℕ) → HoldsAxes text [] s
-    → HoldsAxes text [] (going s (accepted_plan words draw 0 1))
+    → HoldsAxes text [] (with_plan s (accepted_plan words draw 0 1))
 unfolding count
 holds-going words draw h =
     record {
@@ -61,12 +62,12 @@ holds-going words draw h =
       starts-are = refl;
     }
 
--- The refusal of an axis line
+-- What is known of an axis line
 
-pub held_refusal-is : {text : List ℕ} {axes : List Axis} {s : State} (fields : List (List ℕ)) → HoldsAxes text axes s
-    → held_refusal s fields ≡ answer (axis_after axes fields)
+pub held_axis-is : {text : List ℕ} {axes : List Axis} {s : State} (fields : List (List ℕ)) → HoldsAxes text axes s
+    → held_axis s fields ≡ axis_after axes fields
 unfolding axis_line
-held_refusal-is fields h = rw (h.seen-is (name_of fields), h.axes-is)
+held_axis-is fields h = rw (h.seen-is (name_of fields), h.axes-is)
 
 -- An axis more
 
@@ -91,10 +92,11 @@ axes_from-set : (text starts : List ℕ) (n at : ℕ) → n < length starts
     → axes_from text (set starts n at) (n + 1) ≡ axes_from text starts n ++ (axis_of (fields_of (line_at text at)) ∷ [])
 axes_from-set text starts n at h = rw (add-one n, take-suc-set starts n at h) (map_snoc _ (take n starts) at)
 
-pub holds-next : {text : List ℕ} {axes : List Axis} {s : State} (fields : List (List ℕ)) (at : ℕ) → fields ≡ fields_of (line_at text at)
-    → HoldsAxes text axes s → answer (axis_after axes fields) ≡ 0
+pub holds-next : {text : List ℕ} {axes : List Axis} {s : State} {a : AxisLine} (fields : List (List ℕ)) (at : ℕ)
+    → fields ≡ fields_of (line_at text at)
+    → HoldsAxes text axes s → axis_after axes fields ≡ Ok a
     → HoldsAxes text (axes ++ (axis_of fields ∷ [])) (held_after s (name_of fields) (axis_length (axis_of fields)) at)
-holds-next {text} {axes} {s} fields at is h e =
+holds-next {text} {axes} {s} {a} fields at is h e =
     let g = good-on axes fields e in
     record {
       sound = sound-next h.sound g;

@@ -12,7 +12,7 @@ use Rattle.points.specs.Table.{entry_of, table_of}
 use Rattle.points.proofs.TableLaws.{length-table_of-le, table_of-append}
 use Rattle.axis.specs.Axis.{axis_of, stored_at}
 use Rattle.plan.specs.Table.{stored_axes, room as table_room}
-use Rattle.plan.specs.Cursor.{line_at, lines_from, reading_of}
+use Rattle.plan.specs.Cursor.{line_at, lines_from, axes_read}
 use Rattle.plan.specs.State.{StartsAt}
 use Rattle.plan.proofs.SoundLaws.{memory_line-sound}
 use Rattle.plan.proofs.TableLaws.{stored-none, stored_next, length-stored, length-with_axis}
@@ -22,8 +22,8 @@ pub record AxesStored (text t : List ℕ) (starts : List ℕ) (axes : ℕ) (tabl
   pub room : table_room ≤ length t
   pub starts-at : StartsAt text starts axes
   pub few : k ≤ axes
-  pub table_is : table ≡ stored_axes (take k (reading_of text).axes) t
-  pub used-is : used ≡ length (table_of (take k (reading_of text).axes))
+  pub table_is : table ≡ stored_axes (take k (axes_read text)) t
+  pub used-is : used ≡ length (table_of (take k (axes_read text)))
 
 module _ {text t starts : List ℕ} {axes : ℕ} where
   pub none-stored : table_room ≤ length t → StartsAt text starts axes → AxesStored text t starts axes t 0 0
@@ -32,7 +32,7 @@ module _ {text t starts : List ℕ} {axes : ℕ} where
 
   module _ {table : List ℕ} {used k : ℕ} (i : AxesStored text t starts axes table used k) where
     abbrev plan-axes : List Axis
-    plan-axes = (reading_of text).axes
+    plan-axes = axes_read text
 
     -- what stands for an axis that there is not
     abbrev no-axis : Axis

@@ -1,9 +1,11 @@
 -- Lines of a text by the place where they start. The scope knows nothing of it. Assumes nothing.
-use Rattle.std.specs.Prelude.{◌≡◌, Bool, false, ◌&&◌, List, ℕ, ◌+◌, ◌≤◌, ltb, length, drop}
+use Rattle.std.specs.Prelude.{◌≡◌, Bool, false, ◌&&◌, Result, List, ℕ, ◌+◌, ◌≤◌, ltb, length, drop}
 use Rattle.ascii.specs.Ascii.{line_end}
 use Rattle.text.specs.Text.{up_to, lines_of}
+use Rattle.points.specs.Axes.{Axis}
+use Rattle.plan.specs.declared.BadPlan.{BadPlan}
 use Rattle.plan.specs.declared.Cursor.{Cursor}
-use Rattle.plan.specs.Reading.{Line, skipped, kept_lines, Reading, read_memory}
+use Rattle.plan.specs.Reading.{Line, skipped, kept_lines, Reading, or_nothing, read_memory}
 
 -- the line at a place, without its byte 10
 abbrev pub line_at : List ℕ → ℕ → List ℕ
@@ -14,8 +16,12 @@ abbrev pub lines_from : List ℕ → ℕ → ℕ → List Line
 lines_from text at number = kept_lines number (lines_of (drop at text))
 
 -- the reading of all the lines
-abbrev pub reading_of : List ℕ → Reading
+abbrev pub reading_of : List ℕ → Result Reading BadPlan
 reading_of text = read_memory (lines_from text 0 1)
+
+-- and its axes
+abbrev pub axes_read : List ℕ → List Axis
+axes_read text = (or_nothing (reading_of text)).axes
 
 -- is the line at a place, which ends at `end`, one to skip? What follows the last byte 10 is not.
 abbrev pub skipped_at : List ℕ → ℕ → ℕ → Bool

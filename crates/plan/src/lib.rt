@@ -2,17 +2,16 @@
 #![tactic(auto)]
 
 ghost use Rattle.std.specs.Prelude.{◌≡◌, ◌+◌, ◌<◌, ◌≤◌, ◌^◌, length};
-ghost use Rattle.answers.specs.Answer.{refusal_number};
 ghost use Rattle.text.specs.Text.{fields_of};
 ghost use Rattle.names.specs.Names.{name_count};
 ghost use Rattle.points.specs.Axes.{most_axes, most_values};
 ghost use Rattle.points.specs.Table.{entry_of};
+ghost use Rattle.answers.specs.declared.Refused.TheVariants.{Form};
 ghost use Rattle.axis.specs.Axis.{axis_of, stored_at};
 ghost use Rattle.plan.specs.Reading.{text_limit};
-ghost use Rattle.plan.specs.Table.{room, refused_plan, accepted_plan, plan_of, stored_axes};
-ghost use Rattle.plan.specs.Table.{table_after};
-ghost use Rattle.plan.specs.Cursor.{line_at, skipped_at, PositionIn, NextLine, reading_of};
-ghost use Rattle.plan.specs.State.{nothing_read, shut, going};
+ghost use Rattle.plan.specs.Table.{room, plan_of, stored_axes, table_after};
+ghost use Rattle.plan.specs.Cursor.{line_at, skipped_at, PositionIn, NextLine, axes_read};
+ghost use Rattle.plan.specs.State.{nothing_read};
 ghost use Rattle.plan.specs.State.{after_memory, after_draw, after_axis, after_end, held_after};
 ghost use Rattle.plan.specs.State.{StartsAt, LinesRead, LineRead, PlanRead};
 
@@ -24,39 +23,41 @@ pub const ROOM: usize = 528;
 // A plan's text is no longer.
 pub const TEXT: usize = 65536;
 
-// What reading a plan gives: 0 or the refusal, its line, the memory's words, the drawing's number
-// in the scope's order, and how many axes and points there are. A refused plan has only the answer
-// and the line.
+// An accepted plan: the memory's words, the drawing's number in the scope's order, and how many
+// axes and points there are.
 #[derive(Clone, Copy)]
 pub struct Plan {
-    pub answer: u32,
-    pub line: u64,
     pub words: u64,
     pub draw: u64,
     pub axes: u64,
     pub points: u64,
 }
 
+// A refused plan: the refusal, and its line, 0 where the table is too short.
+#[derive(Clone, Copy)]
+pub struct BadPlan {
+    pub refused: Refused,
+    pub line: u64,
+}
+
 // The plan of a text. The axes of an accepted one are stored at the table's start; a refused one
 // leaves the table as lent. 9 where that has no room.
-pub fn read(text: &[u8], table: &mut [u64]) -> Plan
+pub fn read(text: &[u8], table: &mut [u64]) -> Result<Plan, BadPlan>
     ensures { let x = text.now in let t = table.old in
         (result ≡ plan_of x (length t)) × (table.new ≡ table_after x t) }
 {
     if table.len() < ROOM {
-        return refused(Refused::Arguments, 0);
+        return Err(BadPlan {
+            refused: Refused::Arguments,
+            line: 0,
+        });
     }
     if TEXT < text.len() {
-        return refused(Refused::Form, 1);
+        return Err(bad_form(1));
     }
-    let s = read_lines(text);
-    let plan = s.plan;
-    if plan.answer != 0 {
-        return plan;
-    }
-    let starts = s.starts;
-    store_axes(text, table, starts, plan.axes);
-    plan
+    let s = read_lines(text)?;
+    store_axes(text, table, s.starts, s.plan.axes);
+    Ok(s.plan)
 }
 
 // A line of the text: where it starts, where it ends, and its number.
@@ -75,31 +76,32 @@ struct Reader<'a> {
     line: u64,
 }
 
-// What is held of the lines read so far: is another one wanted, the plan up to here, which names
-// came, and where each axis line starts. Before the memory line the plan has no words, before the
-// draw line DRAWING_COUNT for the drawing.
+// What is held of the lines read so far: the plan up to here, which names came, and where each axis
+// line starts. Before the memory line the plan has no words, before the draw line DRAWING_COUNT for
+// the drawing.
 #[derive(Clone, Copy)]
 struct State {
-    wanted: bool,
     plan: Plan,
     seen: [bool; names::COUNT],
     starts: [usize; 8],
 }
 
 // The first pass: one reader is carried through its text, and each line that is not skipped is
-// taken in. What the last one makes of the state ends the loop, and no count.
-fn read_lines(text: &[u8]) -> State
+// taken in. The first bad line ends the loop, or what follows the last line, and no count.
+fn read_lines(text: &[u8]) -> Result<State, BadPlan>
     requires { length text.now ≤ text_limit }
     ensures { PlanRead text.now result }
 {
     let mut r = reader_of(text);
     let mut s = nothing_read();
-    while s.wanted {
+    loop {
         let c = next(r);
-        s = taken(r.text, c, s);
+        if text.len() <= c.end {
+            return at_end(s, c.at < text.len(), c.line);
+        }
+        s = taken(text, c, s)?;
         r = behind(r, c);
     }
-    s
 }
 
 // A reader at its text's start.
@@ -170,7 +172,7 @@ fn is_skipped(text: &[u8], at: usize, end: usize) -> bool
 fn store_axes(text: &[u8], table: &mut [u64], starts: [usize; 8], axes: u64)
     requires { (room ≤ length table.old) × StartsAt text.now starts axes }
     ensures { table.new
-        ≡ stored_axes (reading_of text.now).axes table.old }
+        ≡ stored_axes (axes_read text.now) table.old }
 {
     let mut used = 0;
     for at in &starts[..axes as usize] {
@@ -198,30 +200,28 @@ fn store_axis(line: &[u8], table: &mut [u64], at: usize) -> usize
 fn nothing_read() -> State
     ensures { result ≡ nothing_read }
 {
-    let plan = accepted(0, names::DRAWING_COUNT, 0, 1);
+    let plan = Plan {
+        words: 0,
+        draw: names::DRAWING_COUNT,
+        axes: 0,
+        points: 1,
+    };
     State {
-        wanted: true,
         plan,
         seen: [false; names::COUNT],
         starts: [0; 8],
     }
 }
 
-// The next line that is not skipped, or what follows the last line, is taken in.
-fn taken(text: &[u8], c: Cursor, s: State) -> State
-    requires { (length text.now ≤ text_limit)
+// The next line that is not skipped is taken in.
+fn taken(text: &[u8], c: Cursor, s: State) -> Result<State, BadPlan>
+    requires { (c.end < length text.now)
         × (NextLine text.now c.at c.line c)
         × LinesRead text.now s c.at c.line }
     ensures { LineRead text.now c result }
 {
-    let at = c.at;
-    let end = c.end;
     let plan = s.plan;
-    let size = text.len();
-    if size <= end {
-        return at_end(s, at < size, c.line);
-    }
-    let line = &text[at..end];
+    let line = &text[c.at..c.end];
     if plan.words == 0 {
         return with_memory(s, line::memory_of(line), c.line);
     }
@@ -232,36 +232,48 @@ fn taken(text: &[u8], c: Cursor, s: State) -> State
 }
 
 // The memory line: 20 where its words are 0.
-fn with_memory(s: State, words: u64, line: u64) -> State
+fn with_memory(s: State, words: u64, line: u64) -> Result<State, BadPlan>
     ensures { result ≡ after_memory s words line }
 {
     if words == 0 {
-        return shut(s, refused(Refused::Form, line));
+        return Err(bad_form(line));
     }
-    going(s, accepted(words, names::DRAWING_COUNT, 0, 1))
+    let plan = Plan {
+        words,
+        draw: names::DRAWING_COUNT,
+        axes: 0,
+        points: 1,
+    };
+    Ok(State { plan, ..s })
 }
 
 // The draw line: 20 where it has none of the eight drawings.
-fn with_draw(s: State, draw: u64, line: u64) -> State
+fn with_draw(s: State, draw: u64, line: u64) -> Result<State, BadPlan>
     ensures { result ≡ after_draw s draw line }
 {
-    let plan = s.plan;
     if names::DRAWING_COUNT <= draw {
-        return shut(s, refused(Refused::Form, line));
+        return Err(bad_form(line));
     }
-    going(s, accepted(plan.words, draw, 0, 1))
+    let plan = Plan {
+        words: s.plan.words,
+        draw,
+        axes: 0,
+        points: 1,
+    };
+    Ok(State { plan, ..s })
 }
 
 // An axis line: its refusal, or an axis more.
-fn with_axis(s: State, line: &[u8], c: Cursor) -> State
+fn with_axis(s: State, line: &[u8], c: Cursor) -> Result<State, BadPlan>
     requires { s.plan.points ≤ most_values ^ s.plan.axes }
     ensures { result ≡ after_axis s (fields_of line.now) c }
 {
-    let plan = s.plan;
-    let seen = s.seen;
-    match axis::axis_of(line, seen, plan.axes) {
-        Ok(a) => with_values(s, a.name, a.count, c.at),
-        Err(r) => shut(s, refused(r, c.line)),
+    match axis::axis_of(line, s.seen, s.plan.axes) {
+        Ok(a) => Ok(with_values(s, a.name, a.count, c.at)),
+        Err(refused) => Err(BadPlan {
+            refused,
+            line: c.line,
+        }),
     }
 }
 
@@ -278,73 +290,32 @@ fn with_values(s: State, name: u64, count: u64, at: usize) -> State
     let plan = s.plan;
     seen[name as usize] = true;
     starts[plan.axes as usize] = at;
-    let plan = accepted(plan.words, plan.draw, plan.axes + 1, plan.points * count);
-    State {
-        wanted: true,
-        plan,
-        seen,
-        starts,
-    }
+    let plan = Plan {
+        words: plan.words,
+        draw: plan.draw,
+        axes: plan.axes + 1,
+        points: plan.points * count,
+    };
+    State { plan, seen, starts }
 }
 
 // Behind the last line: 20 where something is left, or where the memory line or the draw line is
 // missing.
-fn at_end(s: State, left: bool, line: u64) -> State
+fn at_end(s: State, left: bool, line: u64) -> Result<State, BadPlan>
     ensures { result ≡ after_end s left line }
 {
-    let plan = s.plan;
-    if left | (plan.draw == names::DRAWING_COUNT) {
-        return shut(s, refused(Refused::Form, line));
+    if left | (s.plan.draw == names::DRAWING_COUNT) {
+        return Err(bad_form(line));
     }
-    shut(s, plan)
+    Ok(s)
 }
 
-// With this plan, and no line is wanted any more.
-fn shut(s: State, plan: Plan) -> State
-    ensures { result ≡ shut s plan }
+// 20 on a line.
+fn bad_form(line: u64) -> BadPlan
+    ensures { result ≡ record { refused = Form; line = line } }
 {
-    State {
-        wanted: false,
-        plan,
-        ..s
-    }
-}
-
-// With this plan, and another line is wanted. (Two names for one update: plainer than a flag.)
-fn going(s: State, plan: Plan) -> State
-    ensures { result ≡ going s plan }
-{
-    State {
-        wanted: true,
-        plan,
-        ..s
-    }
-}
-
-// An accepted plan.
-fn accepted(words: u64, draw: u64, axes: u64, points: u64) -> Plan
-    ensures { result ≡ accepted_plan words draw axes points }
-{
-    Plan {
-        answer: 0,
-        line: 0,
-        words,
-        draw,
-        axes,
-        points,
-    }
-}
-
-// A refused plan.
-fn refused(r: Refused, line: u64) -> Plan
-    ensures { result ≡ refused_plan (refusal_number r) line }
-{
-    Plan {
-        answer: u32::from(r),
+    BadPlan {
+        refused: Refused::Form,
         line,
-        words: 0,
-        draw: 0,
-        axes: 0,
-        points: 0,
     }
 }

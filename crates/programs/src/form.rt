@@ -7,6 +7,7 @@ use crate::runner::{PointRange, Points, Runner};
 use crate::stop::Stop;
 use crate::stream::Stream;
 use crate::writer::Writer;
+use answers::Refused;
 use put_lines::NUMBER;
 
 // How many lines there are between writes.
@@ -71,7 +72,7 @@ fn write_some(
         let before = lines.text().len();
         put(&mut lines, form, points, point);
         if lines.text().len() == before {
-            return Err(sweep.not_listed(point, 9));
+            return Err(sweep.not_listed(point, Refused::Arguments));
         }
     }
     sweep.lines(Stream::Standard, lines.text())

@@ -18,12 +18,10 @@ pub fn plan_of(program: Program<'_>, i: usize, table: &mut [u64]) -> Result<Plan
     let mut space = [0u8; SPACE];
     let n = read_argument(program, i, &mut space)?;
     let text = &space[..n];
-    let p = plan::read(text, table);
-    if p.answer != 0 {
-        reason::tell(program.rt, i, text, p);
-        return Err(Stop::Refused(p));
-    }
-    Ok(p)
+    plan::read(text, table).map_err(|bad| {
+        reason::tell(program.rt, i, text, bad);
+        Stop::Refused(bad)
+    })
 }
 
 // Reads what argument i names into the buffer, as much of it as fits, and gives how many bytes.

@@ -10,7 +10,7 @@ use crate::stop::Stop;
 use crate::stream::Stream;
 use crate::writer::Writer;
 use crate::{form, progress};
-use plan::Plan;
+use plan::BadPlan;
 use run::LINE;
 
 // At most so many points are run between writes.
@@ -20,10 +20,11 @@ const BATCH: u64 = 1024;
 const LONG: u64 = 100000;
 
 // Writes the line of a refused plan.
-pub fn refused(sweep: Program<'_>, p: Plan) -> Result<(), Stop> {
+pub fn refused(sweep: Program<'_>, bad: BadPlan) -> Result<(), Stop> {
     let mut space = [0u8; LINE];
     let mut line = Writer::over(&mut space);
-    line.put(|out, at| first_line::put_refused(out, at, p.answer as u64, p.line));
+    let number = u64::from(u32::from(bad.refused));
+    line.put(|out, at| first_line::put_refused(out, at, number, bad.line));
     sweep.line(Stream::Standard, line.text())
 }
 
@@ -112,6 +113,6 @@ fn run_some(
     let mut space = [0u8; LINE * BATCH as usize];
     match runner.lines(range, &mut space) {
         Ok(n) => sweep.lines(to, &space[..n]),
-        Err(r) => Err(sweep.not_listed(range.first, u64::from(u32::from(r)))),
+        Err(r) => Err(sweep.not_listed(range.first, r)),
     }
 }

@@ -51,7 +51,7 @@ fn over_plan(point: Program<'_>, number: u64) -> Result<(), Stop> {
     }
 }
 
-// Runner the point, and writes all that is told of it.
+// Runs the point, and writes all that is told of it.
 fn tell(
     point: Program<'_>,
     points: Points<'_>,

@@ -6,6 +6,7 @@ use crate::stop::Stop;
 use crate::stream;
 use crate::stream::Stream;
 use crate::writer::Writer;
+use answers::Refused;
 use std::fmt::InlineText;
 use std::io;
 
@@ -62,9 +63,10 @@ impl Program<'_> {
     }
 
     // Lines that a call of the proved libraries did not put.
-    pub fn not_listed(self, first: u64, answer: u64) -> Stop {
+    pub fn not_listed(self, first: u64, refused: Refused) -> Stop {
         let name = self.name;
-        let _ = eprintln!(self.rt; "{name}: refused, {answer}: the lines from point {first} on");
+        let number = u32::from(refused);
+        let _ = eprintln!(self.rt; "{name}: refused, {number}: the lines from point {first} on");
         Stop::Error
     }
 
@@ -87,7 +89,7 @@ impl Program<'_> {
     // Writes a line that was put, if it did fit.
     pub fn line(self, to: Stream<'_>, line: &[u8]) -> Result<(), Stop> {
         if line.is_empty() {
-            return Err(self.not_listed(0, 9));
+            return Err(self.not_listed(0, Refused::Arguments));
         }
         self.lines(to, line)
     }

@@ -3,10 +3,11 @@
 use crate::program::{MESSAGE, PATH};
 use crate::writer::Writer;
 use crate::{arguments, stream};
-use plan::Plan;
+use answers::Refused;
+use plan::BadPlan;
 
 // The line of the plan that argument i names, and whose text this is.
-pub fn tell(rt: &HostRuntime, i: usize, text: &[u8], p: Plan) {
+pub fn tell(rt: &HostRuntime, i: usize, text: &[u8], bad: BadPlan) {
     let mut argument = [0u8; PATH];
     let length = arguments::fill(rt, i, &mut argument);
     let mut space = [0u8; MESSAGE];
@@ -17,10 +18,10 @@ pub fn tell(rt: &HostRuntime, i: usize, text: &[u8], p: Plan) {
         line.path(&argument[..length]);
     }
     line.bytes(b":")
-        .number(p.line, b':')
-        .named(b" refused ", p.answer as u64, b':')
-        .bytes(words_of(p.answer));
-    let word = fault_in(line_of(text, p.line), p.answer).unwrap_or(&[]);
+        .number(bad.line, b':')
+        .named(b" refused ", u64::from(u32::from(bad.refused)), b':')
+        .bytes(words_of(bad.refused));
+    let word = fault_in(line_of(text, bad.line), bad.refused).unwrap_or(&[]);
     if !word.is_empty() {
         line.bytes(b": ").word(word);
     }
@@ -28,13 +29,13 @@ pub fn tell(rt: &HostRuntime, i: usize, text: &[u8], p: Plan) {
     stream::complain(rt, line.text());
 }
 
-// What a refusal's number means.
-fn words_of(answer: u32) -> &'static [u8] {
-    match answer {
-        20 => b" a line has a wrong form",
-        21 => b" a name is unknown or came before",
-        22 => b" a value is too large for its name or stands twice",
-        23 => b" more than 8 axes, or more than 64 values on one",
+// What a refusal of a plan means.
+fn words_of(refused: Refused) -> &'static [u8] {
+    match refused {
+        Refused::Form => b" a line has a wrong form",
+        Refused::Name => b" a name is unknown or came before",
+        Refused::Value => b" a value is too large for its name or stands twice",
+        Refused::Count => b" more than 8 axes, or more than 64 values on one",
         _ => b"",
     }
 }
@@ -46,13 +47,13 @@ fn line_of(text: &[u8], line: u64) -> &[u8] {
 }
 
 // The word at fault, where it is known: the name of 21, and a value of 20 and of 22.
-fn fault_in(line: &[u8], answer: u32) -> Option<&[u8]> {
-    match answer {
-        20 => values_of(line)?
+fn fault_in(line: &[u8], refused: Refused) -> Option<&[u8]> {
+    match refused {
+        Refused::Form => values_of(line)?
             .split(is_tab)
             .find(|field| tabs::no_number(field)),
-        21 => Some(tabs::second(line)),
-        22 => too_large_or_twice(line, values_of(line)?),
+        Refused::Name => Some(tabs::second(line)),
+        Refused::Value => too_large_or_twice(line, values_of(line)?),
         _ => None,
     }
 }

@@ -1,13 +1,12 @@
 // Why a program ends before all is done. What is to be said of it is written already.
 ghost use Rattle.std.specs.Prelude.{◌≤◌};
 
-use plan::Plan;
+use plan::BadPlan;
 
-// The plan is refused, by the answer and the line that reading it gave; or an error, which is one
-// line on standard error.
+// The plan is refused, as reading it told; or an error, which is one line on standard error.
 #[derive(Clone, Copy)]
 pub enum Stop {
-    Refused(Plan),
+    Refused(BadPlan),
     Error,
 }
 

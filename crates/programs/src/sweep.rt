@@ -6,7 +6,7 @@ use crate::stop::Stop;
 use crate::stream::Stream;
 use crate::writer::Writer;
 use crate::{arguments, help, input, listings, resume, sample, version};
-use plan::{Plan, ROOM};
+use plan::{BadPlan, ROOM};
 
 // Reads the arguments, and does what they ask for.
 pub fn swept(sweep: Program<'_>) -> Result<(), Stop> {
@@ -29,18 +29,18 @@ fn over_plan(sweep: Program<'_>, i: usize, task: Task) -> Result<(), Stop> {
                 table: &table,
             },
         ),
-        Err(Stop::Refused(p)) => refused(sweep, task, p),
+        Err(Stop::Refused(bad)) => refused(sweep, task, bad),
         Err(stop) => Err(stop),
     }
 }
 
 // A refused plan has its line in the listing's place, where its start is asked for.
-fn refused(sweep: Program<'_>, task: Task, p: Plan) -> Result<(), Stop> {
+fn refused(sweep: Program<'_>, task: Task, bad: BadPlan) -> Result<(), Stop> {
     match task {
-        Task::At(_) | Task::List(_, PointRange { first: 0, .. }) => listings::refused(sweep, p)?,
+        Task::At(_) | Task::List(_, PointRange { first: 0, .. }) => listings::refused(sweep, bad)?,
         _ => {}
     }
-    Err(Stop::Refused(p))
+    Err(Stop::Refused(bad))
 }
 
 // What is asked for of an accepted plan.

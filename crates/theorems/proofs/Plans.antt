@@ -15,12 +15,12 @@ use Rattle.points.specs.Table.{axes_in}
 use Rattle.points.proofs.TableLaws.{axes_in-table_of, points_in-table_of}
 use Rattle.points.proofs.ExperimentLaws.{experiment-named, experiment-other}
 use Rattle.points.proofs.OneToOne.{points_one_to_one}
-use Rattle.plan.specs.Reading.{reading}
-use Rattle.plan.specs.declared.Plan.{Plan}
+use Rattle.std.specs.Prelude.{IsOk}
+use Rattle.plan.specs.Reading.{reading, plan_in}
 use Rattle.plan.specs.Table.{room, stored_axes, table_after}
 use Rattle.plan.proofs.SoundLaws.{reading-sound}
 use Rattle.plan.proofs.AcceptedLaws.{reading-accepted}
-use Rattle.plan.proofs.PlanLaws.{plan_of-room, table_after-accepted}
+use Rattle.plan.proofs.PlanLaws.{plan_of-accepted, table_after-accepted}
 use Rattle.run.proofs.LinesLaws.{point_lines-add}
 use Rattle.run.proofs.ValuesLaws.{settings-kept, seeds-told}
 use Rattle.run.specs.Lines.{point_lines, longest, bad_shape, bad_points, written}
@@ -28,16 +28,16 @@ use Rattle.theorems.specs.Plans.{NumbersAreExperiments, TableIsPlan, RunIsListin
 use Rattle.theorems.specs.Plans.{SeedsArrive, OfPlans}
 
 pub numbers-are-experiments : NumbersAreExperiments
-numbers-are-experiments text e = points_one_to_one (reading text).axes (reading-sound text)
+numbers-are-experiments text e = points_one_to_one (plan_in text).axes (reading-sound text)
 
 -- the table of a plan that is accepted
-table_is : (text t : List ℕ) → room ≤ length t → (reading text).answer ≡ 0 → table_after text t ≡ stored_axes (reading text).axes t
+table_is : (text t : List ℕ) → room ≤ length t → IsOk (reading text) → table_after text t ≡ stored_axes (plan_in text).axes t
 table_is text t h e =
-    table_after-accepted text t (ap (λ (p : Plan). p.answer) (plan_of-room text t h) ∙ rw (eq-eqb (reading text).answer 0 e))
+    table_after-accepted text t (plan_of-accepted text t h e)
 
 pub table-is-plan : TableIsPlan
 table-is-plan text t h e =
-    let axes = (reading text).axes in
+    let axes = (plan_in text).axes in
     rw (table_is text t h e)
     (axes_in-table_of axes _, points_in-table_of axes _ (reading-sound text))
 
@@ -59,21 +59,21 @@ run-is-listing text t first k size h e l r =
     let a = reading-accepted text e in
     let p = table-is-plan text t h e in
     written_of _ size _ _ first k _ (shape_of _ _ k size a.words-le a.draw-lt r) (some_of _ a.some_words a.words-le)
-    (rw (p.1, le-ltb (count (reading text).axes) (first + k) l) (and-false (ltb 0 k)))
-    ∙ ap (λ (axes : List Axis). point_lines (reading text).words (reading text).draw axes first k) p.0
+    (rw (p.1, le-ltb (count (plan_in text).axes) (first + k) l) (and-false (ltb 0 k)))
+    ∙ ap (λ (axes : List Axis). point_lines (plan_in text).words (plan_in text).draw axes first k) p.0
 
 pub parts_join : PartsJoin
 parts_join r = point_lines-add r.words r.draw r.axes
 
 pub names-have-values : NamesHaveValues
 names-have-values text n =
-    (experiment-named (reading text).axes n (reading-sound text), experiment-other (reading text).axes n)
+    (experiment-named (plan_in text).axes n (reading-sound text), experiment-other (plan_in text).axes n)
 
 pub settings-arrive : SettingsArrive
-settings-arrive text = settings-kept (reading text).axes (reading-sound text)
+settings-arrive text = settings-kept (plan_in text).axes (reading-sound text)
 
 pub seeds-arrive : SeedsArrive
-seeds-arrive text m n words l = seeds-told (reading text).axes (reading-sound text) words l m n
+seeds-arrive text m n words l = seeds-told (plan_in text).axes (reading-sound text) words l m n
 
 pub of-plans : OfPlans
 of-plans =

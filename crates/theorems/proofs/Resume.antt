@@ -30,7 +30,10 @@ use Rattle.text.specs.Text.{up_to}
 use Rattle.points.specs.Axes.{Axis, count}
 use Rattle.points.specs.Points.{experiment}
 use Rattle.points.specs.Table.{axes_in, points_in}
-use Rattle.plan.specs.Reading.{Reading, reading}
+use Rattle.std.specs.Prelude.{Result, Ok, Err}
+use Rattle.answers.specs.Answer.{refusal_number}
+use Rattle.plan.specs.declared.BadPlan.{BadPlan}
+use Rattle.plan.specs.Reading.{Reading, reading, plan_in}
 use Rattle.plan.specs.Table.{table_after}
 use Rattle.plan.proofs.AcceptedLaws.{reading-accepted}
 use Rattle.listing.specs.Listing.{heading, refused_line}
@@ -41,9 +44,9 @@ use Rattle.beginning.specs.Beginning.{line_with, changed_in, ended, no_point, co
 use Rattle.beginning.proofs.LineLaws.{unended, numbers_line-ended}
 use Rattle.beginning.proofs.BeginningLaws.{numbers_of}
 use Rattle.theorems.specs.Plans.{plan_lines}
-use Rattle.theorems.specs.Runs.{listing_part}
+use Rattle.theorems.specs.Runs.{reading_part, listing_part}
 use Rattle.theorems.specs.Resume.{LineEndsOnce, OwnLineTaken, TakenDiffersInChanged}
-use Rattle.theorems.specs.Resume.{lines_after, LinesArePart, Resumed, OfResume}
+use Rattle.theorems.specs.Resume.{reading_rest, lines_after, LinesArePart, Resumed, OfResume}
 use Rattle.theorems.proofs.ResumeLaws.{same_self, same-is, up_to-numbers_line, changed_in-unended}
 use Rattle.theorems.proofs.ResumeLaws.{Whole, whole-none, whole-ended, whole_append, whole_lines-torn}
 use Rattle.theorems.proofs.Plans.{table-is-plan}
@@ -107,7 +110,7 @@ module _ (words draw : ℕ) (axes : List Axis) (point : ℕ) where
 
 pub line-ends-once : LineEndsOnce
 line-ends-once text point =
-    let p = reading text in
+    let p = plan_in text in
     ap ended (own-bytes p.words p.draw p.axes point) ∙ own-ended p.words p.draw p.axes point
 
 -- What is taken
@@ -140,7 +143,7 @@ module _ (words draw axes : ℕ) (t : List ℕ) (point : ℕ) (line : List ℕ) 
 
 pub own-line-taken : OwnLineTaken
 own-line-taken text t point h e l =
-    let p = reading text in
+    let p = plan_in text in
     let a = reading-accepted text e in
     let i = table-is-plan text t h e in
     let line = own-bytes p.words p.draw p.axes point in
@@ -151,7 +154,7 @@ own-line-taken text t point h e l =
 
 pub taken-differs-in-changed : TakenDiffersInChanged
 taken-differs-in-changed text t point line h e c =
-    let p = reading text in
+    let p = plan_in text in
     let i = table-is-plan text t h e in
     let q = of-could p.words p.draw (length p.axes) (table_after text t) point line c in
     let is : ended line ≡ line_with (changed_in line) p.words p.draw p.axes point = rw i.0 at q.1 in
@@ -182,31 +185,28 @@ whole-cond true h k = h
 whole-cond false h k = k
 
 whole_part : (text : List ℕ) (first k : ℕ) → Whole (listing_part text first k)
-whole_part text first k =
-    whole-cond (eqb (reading text).answer 0)
-    (whole_append (cond (eqb first 0) heading []) _ (whole-cond (eqb first 0) whole-heading whole-none)
-    (whole-lines (reading text) first _))
-    (whole-cond (eqb first 0) (whole-refused (reading text).answer (reading text).line) whole-none)
+whole_part text first k = go (reading text)
+  where
+    go : (r : Result Reading BadPlan) → Whole (reading_part r first k)
+    go (Ok r) =
+        whole_append (cond (eqb first 0) heading []) _ (whole-cond (eqb first 0) whole-heading whole-none) (whole-lines r first _)
+    go (Err bad) = whole-cond (eqb first 0) (whole-refused (refusal_number bad.refused) bad.line) whole-none
 
 pub lines-are-part : LinesArePart
-lines-are-part text from k h = rw (ne_eqb from 0 (omega arith))
+lines-are-part text from k h = go (reading text)
+  where
+    go : (r : Result Reading BadPlan) → reading_rest r from k ≡ reading_part r from k
+    go (Ok r) = rw (ne_eqb from 0 (omega arith))
+    go (Err bad) = rw (ne_eqb from 0 (omega arith))
 
 -- behind the heading, or a refused plan's line, as behind other parts
 after-heading : (text : List ℕ) (k : ℕ) → listing_part text 0 0 ++ lines_after text 0 k ≡ listing_part text 0 k
 unfolding point_lines
-after-heading text k =
-    let none : min 0 (count (reading text).axes - 0) ≡ 0 = omega arith in
-    rw none (go (eqb (reading text).answer 0))
+after-heading text k = go (reading text)
   where
-    lines : List ℕ
-    lines = plan_lines (reading text) 0 (min k (count (reading text).axes - 0))
-
-    bad : List ℕ
-    bad = refused_line (reading text).answer (reading text).line
-
-    go : (b : Bool) → cond b (heading ++ []) bad ++ cond b lines [] ≡ cond b (heading ++ lines) bad
-    go true = refl
-    go false = append-nil bad
+    go : (r : Result Reading BadPlan) → reading_part r 0 0 ++ reading_rest r 0 k ≡ reading_part r 0 k
+    go (Ok r) = let none : min 0 (count r.axes - 0) ≡ 0 = omega arith in rw none
+    go (Err bad) = append-nil _
 
 after-part : (text : List ℕ) (first j k : ℕ) → listing_part text first j ++ lines_after text (first + j) k ≡ listing_part text first (j + k)
 after-part text first j k =

@@ -16,7 +16,7 @@ use Rattle.arrays.specs.Array.{drawing_for}
 use Rattle.array_refusal.specs.Refusal.{refusal}
 use Rattle.array_refusal.proofs.RefusalLaws.{refusal-number}
 use Rattle.plot.specs.Drawing.{pixels}
-use Rattle.std.specs.Prelude.{Option, unwrap_or}
+use Rattle.std.specs.Prelude.{Option, unwrap_or, Result, Ok, Err}
 use Rattle.text.specs.Number.{number_of}
 use Rattle.text.proofs.NumberLaws.{number_of-inj}
 use Rattle.points.specs.Axes.{count}
@@ -24,17 +24,18 @@ use Rattle.points.specs.Points.{experiment}
 use Rattle.points.specs.Table.{points_in}
 use Rattle.points.proofs.PointsLaws.{count-le-eight}
 use Rattle.points.proofs.AnswerLaws.{small-axes_in}
-use Rattle.plan.specs.Reading.{Reading, reading}
+use Rattle.plan.specs.declared.BadPlan.{BadPlan}
+use Rattle.plan.specs.Reading.{Reading, reading, or_nothing, plan_in}
 use Rattle.plan.proofs.SoundLaws.{reading-sound}
-use Rattle.listing.specs.Listing.{heading, refused_line}
+use Rattle.listing.specs.Listing.{heading}
 use Rattle.run.specs.Run.{ran_over, image_for}
 use Rattle.run.specs.Lines.{point_lines}
 use Rattle.run.proofs.RunLaws.{ran_over-refused, ran_over-done}
 use Rattle.run.proofs.LinesLaws.{dydx-lt, point_lines-add}
 use Rattle.run.proofs.AnswerLaws.{ends_past-of-point, ends_past-of-none}
 use Rattle.run.proofs.ValuesLaws.{settings-kept-small}
-use Rattle.theorems.specs.Plans.{plan_lines}
-use Rattle.theorems.specs.Runs.{RefusedPoint, PointsAreWhole, PartIsListing, PartsAreOne, NumbersReadBack, OneWriting}
+use Rattle.theorems.specs.Plans.{plan_lines, reading_listing}
+use Rattle.theorems.specs.Runs.{reading_part, RefusedPoint, PointsAreWhole, PartIsListing, PartsAreOne, NumbersReadBack, OneWriting}
 use Rattle.theorems.specs.Runs.{OneField, CountFits, AnswersInOrder, ShownIsRun, OfRuns}
 use Rattle.theorems.proofs.WritingLaws.{number_of-decimal}
 
@@ -71,7 +72,11 @@ min-all : (c k : ℕ) → c ≤ k → min k (c - 0) ≡ c
 min-all c k h = omega arith
 
 pub part-is-listing : PartIsListing
-part-is-listing text k h = rw (min-all (count (reading text).axes) k h)
+part-is-listing text k h = go (reading text) h
+  where
+    go : (r : Result Reading BadPlan) → count (or_nothing r).axes ≤ k → reading_part r 0 k ≡ reading_listing r
+    go (Ok r) h = rw (min-all (count r.axes) k h)
+    go (Err bad) h = refl
 
 -- the lines of two parts that follow one another, of so many points in all
 module _ (r : Reading) (c first j k : ℕ) where
@@ -104,22 +109,18 @@ module _ (r : Reading) (c first j k : ℕ) where
       go false e = lines-past (leb-false _ _ e)
 
 pub parts-are-one : PartsAreOne
-parts-are-one text first j k h = rw (ne_eqb (first + j) 0 (omega arith)) (go (eqb (reading text).answer 0))
+parts-are-one text first j k h = go (reading text)
   where
     front : List ℕ
     front = cond (eqb first 0) heading []
 
-    bad : List ℕ
-    bad = cond (eqb first 0) (refused_line (reading text).answer (reading text).line) []
-
-    lines : ℕ → ℕ → List ℕ
-    lines from n = plan_lines (reading text) from (min n (count (reading text).axes - from))
-
-    go : (b : Bool) → cond b (front ++ lines first j) bad ++ cond b (lines (first + j) k) [] ≡ cond b (front ++ lines first (j + k)) bad
-    go true =
-        append_assoc front (lines first j) (lines (first + j) k)
-        ∙ ap (λ (l : List ℕ). front ++ l) (lines_join (reading text) (count (reading text).axes) first j k)
-    go false = append-nil bad
+    go : (r : Result Reading BadPlan) → reading_part r first j ++ reading_part r (first + j) k ≡ reading_part r first (j + k)
+    go (Ok r) =
+        let lines = λ (from n : ℕ). plan_lines r from (min n (count r.axes - from)) in
+        rw (ne_eqb (first + j) 0 (omega arith))
+        (append_assoc front (lines first j) (lines (first + j) k)
+        ∙ ap (λ (l : List ℕ). front ++ l) (lines_join r (count r.axes) first j k))
+    go (Err bad) = rw (ne_eqb (first + j) 0 (omega arith)) (append-nil _)
 
 -- Numbers
 
@@ -135,7 +136,7 @@ one_field = number_of-inj
 -- Counts and answers
 
 pub count_fits : CountFits
-count_fits text = let s = reading-sound text in count-le-eight (reading text).axes s.few s.lengths
+count_fits text = let s = reading-sound text in count-le-eight (plan_in text).axes s.few s.lengths
 
 pub answers-in-order : AnswersInOrder
 answers-in-order words words' size draw axes t first k =

@@ -1,7 +1,7 @@
 -- Demand 1 of the calls by name: a refused call returns its number and changes no word of memory,
 -- no register and no setting. (Each promise settles this already; here it is said of the
 -- definitions that the promises cite.) The proofs are in proofs/Refused.antt. Assumes nothing.
-use Rattle.std.specs.Prelude.{◌≡◌, Bool, true, false, Ok, List, ℕ, ◌≤◌, length, Result, Err}
+use Rattle.std.specs.Prelude.{◌≡◌, Bool, true, false, Ok, List, ℕ, ◌≤◌, length, Result, Err, IsErr}
 use Rattle.answers.specs.declared.Refused as answers
 use Rattle.answers.specs.Answer.{answer}
 use Rattle.memory.specs.Bits.{no_memory}
@@ -106,8 +106,7 @@ FetchRefused =
 
 -- Reading a plan: the lent table stays.
 abbrev pub PlanRefused : Type 0
-PlanRefused = (text t : List ℕ) → ((plan_of text (length t)).answer ≡ 0 → ⊥)
-    → table_after text t ≡ t
+PlanRefused = (text t : List ℕ) → IsErr (plan_of text (length t)) → table_after text t ≡ t
 
 -- every statement of this file
 pub record OfRefusals : Type 0 where

@@ -1,6 +1,7 @@
 -- Runs of plans: the points of a listing, its parts, its numbers, and the answers of a run. The
 -- proofs are in proofs/Runs.antt. Assumes nothing.
-use Rattle.std.specs.Prelude.{◌≡◌, true, false, cond, List, [], ◌++◌, ◌⊎◌, ℕ, ◌+◌, ◌-◌, ◌^◌, ◌≤◌, ◌<◌, min, eqb, Some}
+use Rattle.std.specs.Prelude.{◌≡◌, true, false, cond, List, [], ◌++◌, ◌⊎◌, Result, Ok, Err, ℕ, ◌+◌, ◌-◌, ◌^◌, ◌≤◌, ◌<◌, min, eqb, Some}
+use Rattle.answers.specs.Answer.{refusal_number}
 use Rattle.memory.specs.Bits.{no_memory}
 use Rattle.settings.specs.Settings.{settings_of}
 use Rattle.plot.specs.Drawing.{pixels}
@@ -10,7 +11,8 @@ use Rattle.text.specs.Number.{number_of}
 use Rattle.points.specs.Axes.{Axis, count}
 use Rattle.points.specs.Points.{experiment}
 use Rattle.points.specs.Table.{axes_in, points_in}
-use Rattle.plan.specs.Reading.{reading}
+use Rattle.plan.specs.declared.BadPlan.{BadPlan}
+use Rattle.plan.specs.Reading.{Reading, reading, plan_in}
 use Rattle.listing.specs.Listing.{decimal, heading, refused_line}
 use Rattle.run.specs.declared.Ran.{Ran}
 use Rattle.run.specs.Run.{ran_for}
@@ -39,17 +41,19 @@ PointsAreWhole =
 
 -- What is written of k points from a first one on, or as many as there are: the heading, or the
 -- line of a refused plan, stands before point 0.
+abbrev pub reading_part : Result Reading BadPlan → ℕ → ℕ → List ℕ
+reading_part (Ok r) first k =
+    cond (eqb first 0) heading [] ++ plan_lines r first (min k (count r.axes - first))
+reading_part (Err bad) first k =
+    cond (eqb first 0) (refused_line (refusal_number bad.refused) bad.line) []
+
 abbrev pub listing_part : List ℕ → ℕ → ℕ → List ℕ
-listing_part text first k =
-    cond (eqb (reading text).answer 0)
-    (cond (eqb first 0) heading []
-    ++ plan_lines (reading text) first (min k (count (reading text).axes - first)))
-    (cond (eqb first 0) (refused_line (reading text).answer (reading text).line) [])
+listing_part text first k = reading_part (reading text) first k
 
 -- A part with all points is the listing.
 abbrev pub PartIsListing : Type 0
 PartIsListing =
-    (text : List ℕ) (k : ℕ) → count (reading text).axes ≤ k → listing_part text 0 k ≡ listing text
+    (text : List ℕ) (k : ℕ) → count (plan_in text).axes ≤ k → listing_part text 0 k ≡ listing text
 
 -- Two parts that follow one another are one part, the heading and a refused plan's line included.
 abbrev pub PartsAreOne : Type 0
@@ -70,7 +74,7 @@ OneField = (a b : List ℕ) (v : ℕ) → number_of a ≡ Some v → number_of b
 
 -- No plan has more than 64^8 points, so that their numbers fit into 64 bits.
 abbrev pub CountFits : Type 0
-CountFits = (text : List ℕ) → count (reading text).axes ≤ 64 ^ 8
+CountFits = (text : List ℕ) → count (plan_in text).axes ≤ 64 ^ 8
 
 -- The answer of a run of k points: 9 first, then 10, then 24, which is given exactly where a point
 -- that is asked for isn't below the count.

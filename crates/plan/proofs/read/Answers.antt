@@ -1,21 +1,23 @@
 -- `read` meets its contract: a short table, a long text, a refused plan, or an accepted one. Assumes nothing.
 use native.Mathlib.Omega.{arith}
+use Rattle.std.proofs.lemmas.Result.{err_from_is_err_and}
 use Rattle.plan.proofs.PlanLaws.{answered-short, answered-long, answered-bad, answered-good}
 use Rattle.plan.proofs.read.Goals as goal
 
 pub returns-then-table-lt-ROOM : goal.returns-then-table-lt-ROOM
-returns-then-table-lt-ROOM c = answered-short _ _ (omega (arith, c.if-table-lt-ROOM.true)) c.refused.ensures
+returns-then-table-lt-ROOM c = answered-short _ _ (omega (arith, c.if-table-lt-ROOM.true))
 
 pub returns-then-text-gt-TEXT : goal.returns-then-text-gt-TEXT
 returns-then-text-gt-TEXT c =
-    answered-long _ _ (omega (arith, c.if-table-lt-ROOM.false)) (omega (arith, c.if-text-gt-TEXT.true)) c.refused-then-text-gt-TEXT.ensures
+    rw c.bad_form.ensures (answered-long _ _ (omega (arith, c.if-table-lt-ROOM.false)) (omega (arith, c.if-text-gt-TEXT.true)))
 
-pub returns-then-plan-ne0 : goal.returns-then-plan-ne0
-returns-then-plan-ne0 c =
-    answered-bad _ _ (omega (arith, c.if-table-lt-ROOM.false)) (omega (arith, c.if-text-gt-TEXT.false)) c.read_lines-s.ensures.plan-is
-    (λ z. omega (arith, z, c.if-plan-ne0.true))
+pub returns-in_err-s : goal.returns-in_err-s
+returns-in_err-s c =
+    let (bad, is, same) = err_from_is_err_and c.from_residual.result c.from_residual.ensures.1 in
+    rw (is, same)
+    (answered-bad _ _ (omega (arith, c.if-table-lt-ROOM.false)) (omega (arith, c.if-text-gt-TEXT.false)) c.in_err-s.ensures)
 
 pub returns : goal.returns
 returns c =
-    answered-good _ _ (omega (arith, c.if-table-lt-ROOM.false)) (omega (arith, c.if-text-gt-TEXT.false)) c.read_lines-s.ensures.plan-is
-    (omega (arith, c.if-plan-ne0.false)) c.store_axes.ensures
+    let all = c.in_ok-s.ensures in
+    answered-good _ _ (omega (arith, c.if-table-lt-ROOM.false)) (omega (arith, c.if-text-gt-TEXT.false)) all.plan-is c.store_axes.ensures

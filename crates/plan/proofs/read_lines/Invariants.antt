@@ -1,10 +1,11 @@
--- `read_lines` meets its contract: while another line is wanted, the lines before the reader's place are read. Assumes nothing.
+-- `read_lines` meets its contract: the lines before the reader's place are read, and another one is wanted. Assumes nothing.
 use Rattle.std.proofs.Common.{◌≡◌, ◌+◌, ◌-◌, length}
-use Rattle.plan.proofs.ReadLaws.{Reads}
+use Rattle.plan.specs.Cursor.{PositionIn}
+use Rattle.plan.specs.State.{LinesRead}
 use Rattle.plan.proofs.read_lines.Given as goal
 
-abbrev pub invariant-loop-s : goal.invariant-loop-s
-invariant-loop-s l = (l.r.text.now ≡ l.text) × Reads l.text l.r.at l.r.line l.s
+abbrev pub invariant-loop-r : goal.invariant-loop-r
+invariant-loop-r l = (l.r.text.now ≡ l.text) × PositionIn l.text l.r.at l.r.line × LinesRead l.text l.s l.r.at l.r.line
 
-abbrev pub decreases-loop-s : goal.decreases-loop-s
-decreases-loop-s l = length l.text + 1 - l.r.at
+abbrev pub decreases-loop-r : goal.decreases-loop-r
+decreases-loop-r l = length l.text + 1 - l.r.at
