@@ -32,7 +32,7 @@ module _ (words draw : ℕ) (axes : List Axis) (point : ℕ) (p : Progress) {s :
   pub image-is : m ≡ image_for words (experiment axes point)
   image-is = em ∙ ap (image words) ed
 
-  pub line-is : line_of point ran ≡ point_line words draw axes point
+  line-is : line_of point ran ≡ point_line words draw axes point
   unfolding point_line
   line-is = rw (er, eo, es, image-is)
 
