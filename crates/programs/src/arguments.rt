@@ -1,5 +1,6 @@
 // The arguments of `sweep`.
-ghost use Rattle.std.specs.Prelude.{◌<◌, ◌≤◌, length, IfOk};
+ghost use Rattle.std.specs.Prelude.{◌<◌, ◌≤◌, IfOk};
+ghost use Rattle.programs.specs.declared.program.TheConstants.{PATH};
 
 use crate::form::Form;
 use crate::program::{LINE, PATH, Program};
@@ -31,47 +32,42 @@ pub const FILE: usize = 3;
 
 // The arguments; a line on standard error where they are bad.
 pub fn read(sweep: Program<'_>) -> Result<Asked, Stop> {
-    let rt = sweep.rt;
-    if is(rt, 1, b"--help") | is(rt, 1, b"-h") {
-        return Ok(Asked::Help);
+    let argument = Argument::of(sweep.rt, 1);
+    match argument.text() {
+        b"--help" | b"-h" => Ok(Asked::Help),
+        b"--version" => Ok(Asked::Version),
+        b"--points" => {
+            whole(sweep, 2)?;
+            Ok(Asked::Plan(2, Task::Count))
+        }
+        b"--at" => at(sweep),
+        b"--resume" => Ok(Asked::Plan(2, Task::Resume(range(sweep, 2, 4)?))),
+        b"--experiments" => listed(sweep, Form::Values, 2),
+        b"--fields" => listed(sweep, Form::Columns, 2),
+        _ => listed(sweep, Form::Results, 1),
     }
-    if is(rt, 1, b"--version") {
-        return Ok(Asked::Version);
-    }
-    if is(rt, 1, b"--points") {
-        whole(sweep, 2)?;
-        return Ok(Asked::Plan(2, Task::Count));
-    }
-    if is(rt, 1, b"--at") {
-        return at(sweep);
-    }
-    if is(rt, 1, b"--resume") {
-        return Ok(Asked::Plan(2, Task::Resume(range(sweep, 2, 4)?)));
-    }
-    if is(rt, 1, b"--experiments") {
-        return Ok(Asked::Plan(2, Task::List(Form::Values, range(sweep, 2, 3)?)));
-    }
-    if is(rt, 1, b"--fields") {
-        return Ok(Asked::Plan(2, Task::List(Form::Columns, range(sweep, 2, 3)?)));
-    }
-    Ok(Asked::Plan(1, Task::List(Form::Results, range(sweep, 1, 2)?)))
+}
+
+// [--experiments | --fields] PLAN [FIRST COUNT], with the plan in an argument.
+fn listed(sweep: Program<'_>, form: Form, plan: usize) -> Result<Asked, Stop> {
+    let range = range(sweep, plan, plan.saturating_add(1))?;
+    Ok(Asked::Plan(plan, Task::List(form, range)))
 }
 
 // --at [--experiments | --fields] PLAN.
 fn at(sweep: Program<'_>) -> Result<Asked, Stop> {
-    if is(sweep.rt, 2, b"--experiments") {
-        return at_in(sweep, Form::Values, 3);
+    let argument = Argument::of(sweep.rt, 2);
+    match argument.text() {
+        b"--experiments" => at_in(sweep, Form::Values, 3),
+        b"--fields" => at_in(sweep, Form::Columns, 3),
+        _ => at_in(sweep, Form::Results, 2),
     }
-    if is(sweep.rt, 2, b"--fields") {
-        return at_in(sweep, Form::Columns, 3);
-    }
-    at_in(sweep, Form::Results, 2)
 }
 
-// The same in a form, with the plan in an argument.
+// --at in a form, with the plan in an argument.
 fn at_in(sweep: Program<'_>, form: Form, plan: usize) -> Result<Asked, Stop> {
     if let Err(stop) = whole(sweep, plan) {
-        // a program of the name `-` is told this too: what is written may not change
+        // A program of the name `-` is told this too: what is written may not change.
         in_file(sweep, 0)?;
         return Err(stop);
     }
@@ -140,24 +136,37 @@ fn too_many(sweep: Program<'_>) -> Stop {
 
 // A word that begins with - and is no option.
 fn unknown(sweep: Program<'_>, i: usize) -> Stop {
-    let mut argument = [0u8; PATH];
-    let length = fill(sweep.rt, i, &mut argument);
+    let argument = Argument::of(sweep.rt, i);
     let mut space = [0u8; LINE];
     let mut words = Writer::over(&mut space);
-    words.bytes(b"unknown option ").word(&argument[..length]);
+    words.bytes(b"unknown option ").word(argument.text());
     words.bytes(b" (see sweep --help)\n");
     sweep.error(words.text())
 }
 
-// Puts the argument at the buffer's start, and gives its length: 0 where there is none, and where
-// it is longer than the buffer.
-pub fn fill(rt: &HostRuntime, i: usize, buffer: &mut [u8]) -> usize
-    ensures { result ≤ length buffer.new }
-{
-    rt.arg(i, buffer).unwrap_or(0)
+// An argument's bytes, at the space's start.
+#[derive(Drop)]
+pub struct Argument {
+    space: [u8; PATH],
+    length: usize,
+    ghost inside: { length ≤ PATH },
 }
 
-// How many arguments there are, the program's name among them.
+impl Argument {
+    // Argument i: an empty one where there is none, and where it is longer than the space.
+    pub fn of(rt: &HostRuntime, i: usize) -> Argument {
+        let mut space = [0u8; PATH];
+        let length = rt.arg(i, &mut space).unwrap_or(0);
+        Argument { space, length }
+    }
+
+    pub fn text(&self) -> &[u8] {
+        &self.space[..self.length]
+    }
+}
+
+// How many arguments there are, the program's name among them. Each is asked for: no call of the
+// library counts them and allocates nothing.
 pub fn count(rt: &HostRuntime) -> usize {
     for i in 0..usize::MAX {
         if let Err(FillError::NotPresent) = rt.arg(i, &mut []) {
@@ -169,21 +178,18 @@ pub fn count(rt: &HostRuntime) -> usize {
 
 // Is the argument this word?
 pub fn is(rt: &HostRuntime, i: usize, word: &[u8]) -> bool {
-    let mut space = [0u8; PATH];
-    let length = fill(rt, i, &mut space);
-    &space[..length] == word
+    let argument = Argument::of(rt, i);
+    argument.text() == word
 }
 
 // Does the argument begin with -, and is more than that?
 pub fn is_option(rt: &HostRuntime, i: usize) -> bool {
-    let mut space = [0u8; PATH];
-    let length = fill(rt, i, &mut space);
-    matches!(&space[..length], [b'-', _, ..])
+    let argument = Argument::of(rt, i);
+    matches!(argument.text(), [b'-', _, ..])
 }
 
 // The argument as a number.
 pub fn number(rt: &HostRuntime, i: usize) -> Option<u64> {
-    let mut space = [0u8; PATH];
-    let length = fill(rt, i, &mut space);
-    text::parse(&space[..length])
+    let argument = Argument::of(rt, i);
+    text::parse(argument.text())
 }

@@ -5,13 +5,13 @@ use operation::Operation;
 use settings::Settings;
 use windows::{Clipped, Rectangle};
 
-// X or Y 0, as coordinates are held.
+// X or Y 0, as coordinates are held. (`address` has this and the next in 32 bits.)
 const ZERO: u64 = 32768;
 
 // The halves of a register.
 const HALF: u64 = 65536;
 
-// The refusal of the first words.
+// The refusal that `refusal_of` begins with.
 const FIRST_REFUSAL: u32 = 10;
 
 impl Writer<'_> {
@@ -55,7 +55,7 @@ impl Writer<'_> {
         self.named(name, n, ascii::TAB).hex(n).bytes(b"\n")
     }
 
-    // The same, and taken apart as X and Y.
+    // A value with its name, in decimal and hexadecimal and taken apart as X and Y.
     fn xy_value(&mut self, name: &[u8], n: u64) -> &mut Self {
         let xy = (n % (HALF * HALF)) as u32;
         self.named(name, n, ascii::TAB)
@@ -73,7 +73,8 @@ impl Writer<'_> {
         self.bytes(&text[..k]).bytes(b"h")
     }
 
-    // A coordinate, which is held with 2^15 added, as a signed number, and a byte.
+    // A coordinate, which is held with 2^15 added, as a signed number, and a byte. (`columns` puts
+    // one at an index.)
     fn signed(&mut self, c: u64, end: u8) -> &mut Self {
         if c < ZERO {
             return self.bytes(b"-").number(ZERO - c, end);
@@ -155,7 +156,7 @@ impl Writer<'_> {
 
     // A rectangle: its columns and rows, and where it lies.
     fn rectangle(&mut self, x: u64, y: u64, cols: u64, rows: u64) -> &mut Self {
-        if (cols == 0) | (rows == 0) {
+        if cols == 0 || rows == 0 {
             return self.bytes(b"nothing\n");
         }
         self.span(b"X ", x, cols)
@@ -180,7 +181,8 @@ impl Writer<'_> {
     }
 }
 
-// What PP stands for (the scope, "One pixel").
+// What PP stands for (the scope, "One pixel"). PP is a number here, as `plot::process` has it; 22
+// to 31 stand for nothing, and are told as they were.
 fn words_of(pp: u64) -> &'static [u8] {
     match pp {
         0 => b"S",
@@ -210,7 +212,7 @@ fn words_of(pp: u64) -> &'static [u8] {
     }
 }
 
-// What the n-th refusal of a drawing means.
+// What the n-th refusal of a drawing means: by number, as `Outcome` has its answer.
 fn refusal_of(n: u32) -> &'static [u8] {
     match n {
         0 => b"the memory is empty or too large",

@@ -1,7 +1,8 @@
 // The plan's text, and the plan.
 ghost use Rattle.std.specs.Prelude.{◌≤◌, length, IfOk};
 
-use crate::program::{PATH, Program};
+use crate::arguments::Argument;
+use crate::program::Program;
 use crate::stop::Stop;
 use crate::stream::Stream;
 use crate::{arguments, reason, stream};
@@ -31,13 +32,10 @@ fn read_argument(program: Program<'_>, i: usize, buffer: &mut [u8]) -> Result<us
     if arguments::is(program.rt, i, b"-") {
         return read_text(program, Stream::Standard, b"standard input", buffer);
     }
-    let mut space = [0u8; PATH];
-    let length = arguments::fill(program.rt, i, &mut space);
-    let path = &space[..length];
-    match opened(program.rt, path) {
-        Ok(file) => read_text(program, Stream::File(&file), path, buffer),
-        Err(e) => Err(program.failed(path, e)),
-    }
+    let argument = Argument::of(program.rt, i);
+    let path = argument.text();
+    let file = opened(program.rt, path).map_err(|e| program.failed(path, e))?;
+    read_text(program, Stream::File(&file), path, buffer)
 }
 
 // A file, open for reading.
@@ -63,15 +61,13 @@ fn read_text(
     ensures { IfOk result (λ n. n ≤ length buffer.new) }
 {
     let (n, ended) = read_full(program.rt, from, buffer);
-    match ended {
-        Ok(()) => Ok(n),
-        Err(e) => Err(program.failed(name, e)),
-    }
+    ended.map_err(|e| program.failed(name, e))?;
+    Ok(n)
 }
 
 // Reads until the buffer is full, the input ends or a read fails: how many bytes it put at the
 // buffer's start, and whether all went well. A loop, since `read_exact` does not say how many came
-// before the end.
+// before the end. `vectors` has its own: no crate below both reads.
 pub fn read_full(rt: &HostRuntime, from: Stream<'_>, buffer: &mut [u8]) -> (usize, io::Result<()>)
     ensures { result.0 ≤ length buffer.new }
 {

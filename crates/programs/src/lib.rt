@@ -1,6 +1,8 @@
 // The programs `sweep` and `point`. Each is a function that hands back the exit status: 0 done, 1
 // the plan is refused, 2 an error, which is one line on standard error. The crates `sweep` and
 // `point` call them, each as a program of its own, so that a program is one process with a status.
+//
+// Buffers are arrays, and how much of one is used stands beside it: nothing is allocated.
 #![tactic(auto)]
 
 ghost use Rattle.std.specs.Prelude.{◌≤◌};

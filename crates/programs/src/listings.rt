@@ -4,12 +4,12 @@ ghost use Rattle.programs.specs.Batch.{most_points};
 
 use crate::form::Form;
 use crate::program::Program;
+use crate::progress;
 use crate::progress::Progress;
 use crate::runner::{PointRange, Points, Runner};
 use crate::stop::Stop;
 use crate::stream::Stream;
 use crate::writer::Writer;
-use crate::{form, progress};
 use plan::BadPlan;
 use run::LINE;
 
@@ -41,7 +41,7 @@ pub fn list(
     }
     match form {
         Form::Results => run_these(sweep, points, range),
-        _ => form::write_all(sweep, form, points, range),
+        _ => form.write_all(sweep, points, range),
     }
 }
 
@@ -111,8 +111,8 @@ fn run_some(
     requires { range.count ≤ most_points }
 {
     let mut space = [0u8; LINE * BATCH as usize];
-    match runner.lines(range, &mut space) {
-        Ok(n) => sweep.lines(to, &space[..n]),
-        Err(r) => Err(sweep.not_listed(range.first, r)),
-    }
+    let n = runner
+        .lines(range, &mut space)
+        .map_err(|r| sweep.not_listed(range.first, r))?;
+    sweep.lines(to, &space[..n])
 }

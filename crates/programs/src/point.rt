@@ -1,5 +1,6 @@
 // point PLAN N: one point in full, for a reader: its values in decimal and hexadecimal and taken
 // apart, the answer in words, what the drawing leaves, and what the window leaves of the array.
+use crate::arguments::Argument;
 use crate::program::Program;
 use crate::runner::{Points, Runner};
 use crate::stop::Stop;
@@ -13,17 +14,19 @@ use settings::Settings;
 // All that is told of a point has fewer bytes.
 const SPACE: usize = 8192;
 
+// What --help writes.
+const HELP: &[u8] = b"\
+point PLAN N shows point N of a plan in full. PLAN is a file, or - for standard input.\n\
+Status: 0 done, 1 the plan is refused, 2 an error (one line on standard error).\n";
+
 // Reads the arguments and the plan, and tells of the point.
 pub fn told(point: Program<'_>) -> Result<(), Stop> {
     let rt = point.rt;
-    if arguments::is(rt, 1, b"--help") | arguments::is(rt, 1, b"-h") {
-        return point.lines(
-            Stream::Standard,
-            b"point PLAN N shows point N of a plan in full. PLAN is a file, or - for standard input.\nStatus: 0 done, 1 the plan is refused, 2 an error (one line on standard error).\n",
-        );
-    }
-    if arguments::is(rt, 1, b"--version") {
-        return version::tell(point);
+    let argument = Argument::of(rt, 1);
+    match argument.text() {
+        b"--help" | b"-h" => return point.lines(Stream::Standard, HELP),
+        b"--version" => return version::tell(point),
+        _ => {}
     }
     if arguments::count(rt) != 3 {
         return Err(point.error(b"usage: point PLAN N (see point --help)\n"));

@@ -29,7 +29,8 @@ pub struct Program<'a> {
 }
 
 impl Program<'_> {
-    // An error, in these words, which end the line.
+    // An error, in these words, which end the line. Bytes and no format: a path or a word of the
+    // user's need not be text in UTF-8.
     pub fn error(self, words: &[u8]) -> Stop {
         let mut space = [0u8; MESSAGE];
         let mut line = Writer::over(&mut space);
@@ -62,7 +63,8 @@ impl Program<'_> {
         Stop::Error
     }
 
-    // Lines that a call of the proved libraries did not put.
+    // Lines that a call of the proved libraries did not put. (One function for this and `no_point`
+    // would be handed both messages whole.)
     pub fn not_listed(self, first: u64, refused: Refused) -> Stop {
         let name = self.name;
         let number = u32::from(refused);
@@ -70,7 +72,8 @@ impl Program<'_> {
         Stop::Error
     }
 
-    // Writes whole lines; where that fails, no part of a line is left in a file.
+    // Writes whole lines; where that fails, no part of a line is left in a file. A loop, since
+    // `write_all` does not say how much was written.
     pub fn lines(self, to: Stream<'_>, bytes: &[u8]) -> Result<(), Stop> {
         let mut rest = bytes;
         while !rest.is_empty() {

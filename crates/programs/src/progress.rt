@@ -7,7 +7,8 @@ use crate::writer::Writer;
 use std::io::IsTerminal;
 use std::time::{Clock, CpuClock};
 
-// Of how many points, with how many done before; when did the run start, when was it shown last?
+// How many points there are, and how many were done before; when the run began, and when progress
+// was shown last, in seconds.
 #[derive(Clone, Copy)]
 pub struct Progress<'a> {
     rt: &'a HostRuntime,
@@ -100,10 +101,8 @@ fn left(done: u64, rest: u64, seconds: u64) -> u64 {
     if seconds == 0 {
         return 0;
     }
-    if done < MANY {
-        if rest < MANY {
-            return quotient(rest * HOUR, done * HOUR / seconds);
-        }
+    if done < MANY && rest < MANY {
+        return quotient(rest * HOUR, done * HOUR / seconds);
     }
     quotient(rest, done / seconds)
 }
@@ -114,7 +113,7 @@ const MANY: u64 = 1 << 50;
 // Seconds of an hour.
 const HOUR: u64 = 3600;
 
-// A quotient: 0 where there is none.
+// A quotient: 0 where there is none, and that is shown.
 fn quotient(a: u64, b: u64) -> u64 {
     a.checked_div(b).unwrap_or(0)
 }
@@ -126,13 +125,10 @@ fn now(rt: &HostRuntime) -> u64 {
 
 // The processor time spent, in millionths of a second: 0 where the clock tells none.
 pub fn spent(rt: &HostRuntime) -> u64 {
-    match rt.process_cpu_time() {
-        Ok(time) => {
-            let whole = time.as_secs().saturating_mul(MILLION);
-            whole.saturating_add(u64::from(time.subsec_micros()))
-        }
-        Err(_) => 0,
-    }
+    rt.process_cpu_time().map_or(0, |time| {
+        let whole = time.as_secs().saturating_mul(MILLION);
+        whole.saturating_add(u64::from(time.subsec_micros()))
+    })
 }
 
 const MILLION: u64 = 1000000;

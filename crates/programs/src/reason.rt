@@ -1,6 +1,7 @@
 // Why a plan is refused, in words: one line on standard error, `PLAN:LINE: refused N: words`, with
 // the word at fault where it is known.
-use crate::program::{MESSAGE, PATH};
+use crate::arguments::Argument;
+use crate::program::MESSAGE;
 use crate::writer::Writer;
 use crate::{arguments, stream};
 use answers::Refused;
@@ -8,14 +9,13 @@ use plan::BadPlan;
 
 // The line of the plan that argument i names, and whose text this is.
 pub fn tell(rt: &HostRuntime, i: usize, text: &[u8], bad: BadPlan) {
-    let mut argument = [0u8; PATH];
-    let length = arguments::fill(rt, i, &mut argument);
+    let argument = Argument::of(rt, i);
     let mut space = [0u8; MESSAGE];
     let mut line = Writer::over(&mut space);
     if arguments::is(rt, i, b"-") {
         line.bytes(b"standard input");
     } else {
-        line.path(&argument[..length]);
+        line.path(argument.text());
     }
     line.bytes(b":")
         .number(bad.line, b':')

@@ -3,15 +3,15 @@
 // some spread over the file and the last one are run again and compared whole.
 ghost use Rattle.std.specs.Prelude.{◌+◌, ◌^◌, ◌<◌};
 
-use crate::arguments::FILE;
+use crate::arguments::{Argument, FILE};
 use crate::form::Form;
-use crate::program::{MESSAGE, PATH, Program};
+use crate::program::{MESSAGE, Program};
 use crate::reader::{Piece, Reader};
 use crate::runner::{PointRange, Points, Runner};
 use crate::stop::Stop;
 use crate::stream::Stream;
 use crate::writer::Writer;
-use crate::{arguments, input, listings, progress};
+use crate::{input, listings, progress};
 use run::LINE;
 use std::fs::{File, OpenOptions};
 use std::io;
@@ -27,13 +27,10 @@ const ENOUGH: u64 = 10000000;
 // Goes on with FILE, which is made where it is missing.
 pub fn go_on(sweep: Program<'_>, points: Points<'_>, range: PointRange) -> Result<(), Stop> {
     let range = points.in_range(sweep, range)?;
-    let mut space = [0u8; PATH];
-    let length = arguments::fill(sweep.rt, FILE, &mut space);
-    let path = &space[..length];
-    match opened(sweep.rt, path) {
-        Ok(file) => go_on_with(sweep, &file, path, points, range),
-        Err(e) => Err(sweep.failed(path, e)),
-    }
+    let argument = Argument::of(sweep.rt, FILE);
+    let path = argument.text();
+    let file = opened(sweep.rt, path).map_err(|e| sweep.failed(path, e))?;
+    go_on_with(sweep, &file, path, points, range)
 }
 
 // The file, open for reading and writing, and at its start.
@@ -122,9 +119,7 @@ impl Resumed<'_> {
         requires { self.range.first + self.range.count < 2 ^ 64 }
     {
         let held = self.held(runner)?;
-        if let Err(e) = at_end(self.file, held) {
-            return Err(self.failed(e));
-        }
+        at_end(self.file, held).map_err(|e| self.failed(e))?;
         let to = Stream::File(self.file);
         if held.bytes == 0 && self.range.first == 0 {
             Form::Results.head(self.sweep, to)?;
@@ -303,10 +298,9 @@ fn at_end(file: &File, held: Held) -> io::Result<()> {
 
 // Is a line, without its end, this one with its end?
 fn is_line(line: &[u8], whole: &[u8]) -> bool {
-    match whole.split_last() {
-        Some((_, without_end)) => line == without_end,
-        None => false,
-    }
+    whole
+        .split_last()
+        .is_some_and(|(_, without_end)| line == without_end)
 }
 
 // Are these the first bytes of a line, and not all of them?
@@ -316,7 +310,7 @@ fn starts(line: &[u8], bytes: &[u8]) -> bool {
 
 // Is a line run again, after so long a time? All are at first, and then some.
 fn is_run_again(k: u64, again: u64, spent: u64) -> bool {
-    (spent < SOON) | ((k == again) & (spent < ENOUGH))
+    spent < SOON || (k == again && spent < ENOUGH)
 }
 
 // Which line is run again next, if not all are: one half further on.
@@ -333,13 +327,11 @@ fn next_again(k: u64, again: u64) -> u64 {
 // Is a line that of a point? The point is run.
 fn is_own(runner: &mut Runner<'_>, point: u64, line: &[u8]) -> bool {
     let mut space = [0u8; LINE];
-    let n = runner.line(point, &mut space);
-    is_line(line, &space[..n])
+    is_line(line, runner.line(point, &mut space))
 }
 
 // Is it the beginning of a point's line?
 fn begins_line(runner: &mut Runner<'_>, point: u64, torn: &[u8]) -> bool {
     let mut space = [0u8; LINE];
-    let n = runner.line(point, &mut space);
-    starts(&space[..n], torn)
+    starts(runner.line(point, &mut space), torn)
 }

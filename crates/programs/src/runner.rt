@@ -9,7 +9,9 @@ use operation::Operation;
 use plan::Plan;
 use settings::Settings;
 
-// Some points: `count` of them from `first` on, or as many as there are.
+// Some points: `count` of them from `first` on, or as many as there are. No type of its own says
+// that their numbers are below 2^64: the user asks for such a range too, and `Points::in_range`
+// cuts it.
 #[derive(Clone, Copy)]
 pub struct PointRange {
     pub first: u64,
@@ -37,7 +39,7 @@ impl Points<'_> {
     {
         let PointRange { first, count } = range;
         let points = self.plan.points;
-        if (first >= points) & (count != 0) {
+        if points <= first && count != 0 {
             return Err(sweep.no_point(first, points));
         }
         let count = asked_of(points, range);
@@ -65,7 +67,8 @@ fn asked_of(points: u64, range: PointRange) -> u64
     points.saturating_sub(range.first).min(range.count)
 }
 
-// What runs a plan's points, over two lent memories of the plan's size.
+// What runs a plan's points, over two lent memories of the plan's size. They stand where a runner
+// is made, as nothing is allocated.
 #[derive(Drop)]
 pub struct Runner<'a> {
     pub points: Points<'a>,
@@ -99,18 +102,18 @@ impl Runner<'_> {
         Ok(listed?.min(out.len()))
     }
 
-    // Puts the line of a point at the buffer's start, and gives its length: 0 where there is none.
-    pub fn line(&mut self, point: u64, out: &mut [u8]) -> usize
-        ensures { result ≤ length out.new }
-    {
+    // Puts the line of a point into a space, and lends it: an empty one where there is none.
+    pub fn line<'a>(&mut self, point: u64, space: &'a mut [u8]) -> &'a [u8] {
         let range = PointRange {
             first: point,
             count: 1,
         };
-        self.lines(range, out).unwrap_or(0)
+        let n = self.lines(range, space).unwrap_or(0);
+        &space[..n]
     }
 
-    // What a drawing over the image of a seed hands back, and how many bits it changes.
+    // What a drawing over the image of a seed hands back, and how many bits it changes. A plan has
+    // at least a word of memory, and no more than an image may: neither call refuses it.
     pub fn drawn(&mut self, op: Operation, s: Settings, seed: u64) -> (Outcome, u64) {
         let (image, memory) = (&mut *self.image, &mut *self.memory);
         let _ = image::fill_image(image, seed);

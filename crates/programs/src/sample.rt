@@ -1,5 +1,4 @@
 // --at: the lines of the points whose numbers stand on standard input, one on a line.
-use crate::form;
 use crate::form::Form;
 use crate::program::{LINE, Program};
 use crate::reader::Reader;
@@ -40,9 +39,7 @@ fn list_one(
     word: &[u8],
 ) -> Result<(), Stop> {
     match text::parse(word) {
-        Some(point) if point < runner.points.plan.points => {
-            form::write_one(sweep, form, runner, point)
-        }
+        Some(point) if point < runner.points.plan.points => form.write_one(sweep, runner, point),
         _ => Err(no_point(sweep, line, word)),
     }
 }

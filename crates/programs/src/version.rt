@@ -8,13 +8,11 @@ use std::env;
 
 // Writes the file to standard output; a line on standard error where it is not there.
 pub fn tell(program: Program<'_>) -> Result<(), Stop> {
-    match env::current_exe(program.rt) {
-        Ok(place) => tell_beside(program, place.as_str().as_bytes()),
-        Err(e) => Err(program.failed(b"/proc/self/exe", e)),
-    }
+    let place = env::current_exe(program.rt).map_err(|e| program.failed(b"/proc/self/exe", e))?;
+    tell_beside(program, place.as_str().as_bytes())
 }
 
-// The same, of the program at this place: its folder, and its name behind the last /.
+// Writes the version of the program at this place: its folder, and its name behind the last /.
 fn tell_beside(program: Program<'_>, place: &[u8]) -> Result<(), Stop> {
     let end = place.iter().rposition(|c| *c == b'/').unwrap_or(0);
     let (folder, name) = place.split_at(end);
@@ -29,12 +27,8 @@ fn tell_beside(program: Program<'_>, place: &[u8]) -> Result<(), Stop> {
 
 // Writes a small file to standard output.
 fn copied(program: Program<'_>, path: &[u8]) -> Result<(), Stop> {
-    match input::opened(program.rt, path) {
-        Ok(file) => {
-            let mut space = [0u8; PATH];
-            let (n, _) = input::read_full(program.rt, Stream::File(&file), &mut space);
-            program.lines(Stream::Standard, &space[..n])
-        }
-        Err(e) => Err(program.failed(path, e)),
-    }
+    let file = input::opened(program.rt, path).map_err(|e| program.failed(path, e))?;
+    let mut space = [0u8; PATH];
+    let (n, _) = input::read_full(program.rt, Stream::File(&file), &mut space);
+    program.lines(Stream::Standard, &space[..n])
 }

@@ -6,10 +6,7 @@ use crate::program::PATH;
 // So much of a word is shown.
 const WORD: usize = 64;
 
-// The control character behind the printed ones.
-const DELETE: u8 = 127;
-
-// The buffer, and the index behind what was put.
+// The buffer, and the index behind what was put: the libraries put at an index, as C's calls do.
 #[derive(Drop)]
 pub struct Writer<'a> {
     out: &'a mut [u8],
@@ -75,8 +72,5 @@ impl Writer<'_> {
 
 // A byte as it is, or ? for a control character.
 fn visible(c: u8) -> u8 {
-    if (c < b' ') | (c == DELETE) {
-        return b'?';
-    }
-    c
+    if c.is_ascii_control() { b'?' } else { c }
 }

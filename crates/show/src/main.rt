@@ -1,5 +1,5 @@
-// Shows what there is: a field read and written, what it costs, an image, eight
-// fetches of the instruction cache.
+// Shows what there is: a field read and written, what it costs, an image, eight fetches of the
+// instruction cache. What cannot be written is let go.
 #![tactic(auto)]
 
 use answers::answer;
@@ -13,47 +13,24 @@ fn main(rt: HostRuntime) {
     show_cache(&rt);
 }
 
-// What cannot be written is let go.
-fn text(rt: &impl Print, text: &str) {
-    let _ = rt.print(text);
-}
-
-fn number(rt: &impl Print, n: u64) {
-    let _ = rt.print(n);
-}
-
-// In so many hexadecimal digits, or more.
-fn hex(rt: &impl Print, n: u64, width: usize) {
-    let _ = print!(rt; "{n:0width$x}");
-}
-
 // Size 8 at address 12 over two words: read, its costs, and the words after a write.
 fn show_field(rt: &impl Print) {
-    let mut space = [61440u16, 10u16];
+    let mut space = [0xf000u16, 0x000au16];
     let memory: &mut [u16] = &mut space;
-    text(rt, "field of 8 bits at address 12 over f000 000a\n");
+    let _ = println!(rt; "field of 8 bits at address 12 over f000 000a");
     let plain = field::read(memory, 12, 8, false).unwrap_or(0);
-    text(rt, "  read\t");
-    hex(rt, u64::from(plain), 8);
+    let _ = println!(rt; "  read\t{plain:08x}");
     let signed = field::read(memory, 12, 8, true).unwrap_or(0);
-    text(rt, "\n  signed\t");
-    hex(rt, u64::from(signed), 8);
+    let _ = println!(rt; "  signed\t{signed:08x}");
     let none = Cycles { read: 0, write: 0 };
-    let cycles = timing::field_cycles(12, 8).unwrap_or(none);
-    text(rt, "\n  memory cycles of a read, of a write\t");
-    number(rt, u64::from(cycles.read));
-    text(rt, "\t");
-    number(rt, u64::from(cycles.write));
+    let Cycles { read, write } = timing::field_cycles(12, 8).unwrap_or(none);
+    let _ = println!(rt; "  memory cycles of a read, of a write\t{read}\t{write}");
     let states = states::move_states(12, 8, Mode::Indirect, false, true).unwrap_or(0);
-    text(rt, "\n  states of MOVE in cache\t");
-    number(rt, u64::from(states));
-    let written = field::write(memory, 12, 8, 51);
-    text(rt, "\n  write 33\tanswer ");
-    number(rt, u64::from(answer(&written)));
-    let past = field::write(memory, 4294967295, 8, 51);
-    text(rt, "\n  write at ffffffff\tanswer ");
-    number(rt, u64::from(answer(&past)));
-    text(rt, "\n");
+    let _ = println!(rt; "  states of MOVE in cache\t{states}");
+    let written = answer(&field::write(memory, 12, 8, 0x33));
+    let _ = println!(rt; "  write 33\tanswer {written}");
+    let past = answer(&field::write(memory, u32::MAX, 8, 0x33));
+    let _ = println!(rt; "  write at ffffffff\tanswer {past}");
 }
 
 // The image of seed 1 over four words, and the bits in which it differs from zeros.
@@ -65,18 +42,15 @@ fn show_image(rt: &impl Print) {
     let low = field::read(memory, 0, 32, false).unwrap_or(0);
     let high = field::read(memory, 32, 32, false).unwrap_or(0);
     let bits = memory::changed(&zeros, memory).unwrap_or(0);
-    text(rt, "image of seed 1 over 4 words\n  words 1 and 0\t");
-    hex(rt, u64::from(low), 8);
-    text(rt, "\n  words 3 and 2\t");
-    hex(rt, u64::from(high), 8);
-    text(rt, "\n  bits that are 1\t");
-    number(rt, bits);
-    text(rt, "\n");
+    let _ = println!(rt; "image of seed 1 over 4 words");
+    let _ = println!(rt; "  words 1 and 0\t{low:08x}");
+    let _ = println!(rt; "  words 3 and 2\t{high:08x}");
+    let _ = println!(rt; "  bits that are 1\t{bits}");
 }
 
 // Eight fetches from the fresh cache.
 fn show_cache(rt: &impl Print) {
-    text(rt, "fetches from the fresh cache\n");
+    let _ = println!(rt; "fetches from the fresh cache");
     let mut cache = Cache::fresh();
     for address in [0u32, 64, 16, 512, 1024, 1536, 2048, 0] {
         cache = shown(rt, cache, address);

@@ -14,10 +14,26 @@ use std::io::Read;
 use std::{array, fmt};
 use timing::Cycles;
 
-// A line has so many bytes.
-const LINE: usize = 180;
+// So many numbers stand in a line, each of so many digits and with a byte behind it.
+const NUMBERS: usize = 20;
 
-// What a line tests.
+const DIGITS: usize = 8;
+
+// A line has so many bytes.
+const LINE: usize = NUMBERS * (DIGITS + 1);
+
+// How many tests there are.
+const TESTS: usize = 8;
+
+// So many of the lines that differ are told of, and no more.
+const TOLD: u64 = 20;
+
+// How many values half a number of a line has, and a whole one.
+const HALF: u32 = 1 << 16;
+
+const WHOLE: u64 = 1 << 32;
+
+// What a line tests. A line that is no vector is a test too: it has a count and a name.
 #[derive(Clone, Copy)]
 enum Test {
     NoVector,
@@ -62,18 +78,13 @@ impl fmt::Display for Test {
 }
 
 // How many lines there were, and how many of them differ.
-#[derive(Clone, Copy)]
+#[derive(Clone, Copy, Default)]
 struct Count {
     vectors: u64,
     differ: u64,
 }
 
 impl Count {
-    const NONE: Count = Count {
-        vectors: 0,
-        differ: 0,
-    };
-
     // With a line more.
     fn and(self, differs: bool) -> Count {
         Count {
@@ -95,13 +106,14 @@ impl fmt::Display for Count {
 #[derive(Clone, Copy)]
 struct Counts {
     all: Count,
-    of: [Count; 8],
+    of: [Count; TESTS],
 }
 
+// A proof does not know that a test's number is below TESTS: it is asked.
 impl Counts {
     fn of(&self, test: Test) -> Count {
         let i = test as usize;
-        self.of.get(i).copied().unwrap_or(Count::NONE)
+        self.of.get(i).copied().unwrap_or_default()
     }
 
     fn add(&mut self, test: Test, differs: bool) {
@@ -115,8 +127,8 @@ impl Counts {
 
 fn main(rt: HostRuntime) {
     let mut counts = Counts {
-        all: Count::NONE,
-        of: [Count::NONE; 8],
+        all: Count::default(),
+        of: [Count::default(); TESTS],
     };
     compare_all(&rt, &mut counts);
     report(&rt, &counts);
@@ -147,7 +159,7 @@ fn compare_line(rt: &impl Print, input: &mut impl Read, line: u64, counts: &mut 
         Test::NoVector
     };
     let differs = !agrees(test, n);
-    if differs && counts.all.differ < 20 {
+    if differs && counts.all.differ < TOLD {
         let _ = println!(rt; "differs at line {line}: {test}");
     }
     counts.add(test, differs);
@@ -156,6 +168,7 @@ fn compare_line(rt: &impl Print, input: &mut impl Read, line: u64, counts: &mut 
 
 // Reads until the buffer is full, the input ends or a read fails, and gives how many bytes it put
 // at the buffer's start. A loop, since `read_exact` does not say how many came before the end.
+// `programs` has its own: no crate below both reads.
 fn read_full(input: &mut impl Read, buffer: &mut [u8]) -> usize
     ensures { IsPrefixLen result buffer.new }
 {
@@ -170,7 +183,7 @@ fn read_full(input: &mut impl Read, buffer: &mut [u8]) -> usize
 }
 
 // Does what the library gives agree with every number that a vector expects?
-fn agrees(test: Test, n: [u32; 20]) -> bool {
+fn agrees(test: Test, n: [u32; NUMBERS]) -> bool {
     match test {
         Test::NoVector => false,
         Test::Read => read_agrees(n),
@@ -184,70 +197,70 @@ fn agrees(test: Test, n: [u32; 20]) -> bool {
 }
 
 // 1: words, address, size, signed, m0..m3, answer, value. The memory stays.
-fn read_agrees(n: [u32; 20]) -> bool {
+fn read_agrees(n: [u32; NUMBERS]) -> bool {
     let mut m = [word(n[5]), word(n[6]), word(n[7]), word(n[8])];
     let words = held(n[1], &m);
     let r = field::read(&mut m[..words], n[2], n[3], n[4] == 1);
     let kept = are_words(m, n[5], n[6], n[7], n[8]);
-    (n[1] <= 4) & (answer(&r) == n[9]) & (r.unwrap_or(0) == n[10]) & kept
+    n[1] <= 4 && answer(&r) == n[9] && r.unwrap_or(0) == n[10] && kept
 }
 
 // 2: words, address, size, value, m0..m3, answer, m0..m3 after.
-fn write_agrees(n: [u32; 20]) -> bool {
+fn write_agrees(n: [u32; NUMBERS]) -> bool {
     let mut m = [word(n[5]), word(n[6]), word(n[7]), word(n[8])];
     let words = held(n[1], &m);
     let r = field::write(&mut m[..words], n[2], n[3], n[4]);
     let after = are_words(m, n[10], n[11], n[12], n[13]);
-    (n[1] <= 4) & (answer(&r) == n[9]) & after
+    n[1] <= 4 && answer(&r) == n[9] && after
 }
 
 // 3: address, size, answer, read cycles, write cycles.
-fn cycles_agree(n: [u32; 20]) -> bool {
+fn cycles_agree(n: [u32; NUMBERS]) -> bool {
     let r = timing::field_cycles(n[1], n[2]);
     let cycles = r.unwrap_or(Cycles { read: 0, write: 0 });
-    (answer(&r) == n[3]) & (cycles.read == n[4]) & (cycles.write == n[5])
+    answer(&r) == n[3] && cycles.read == n[4] && cycles.write == n[5]
 }
 
 // 4: address, size, mode, signed, cached, answer, states.
-fn states_agree(n: [u32; 20]) -> bool {
+fn states_agree(n: [u32; NUMBERS]) -> bool {
     let Ok(mode) = Mode::try_from(n[3]) else {
         return false;
     };
     let r = states::move_states(n[1], n[2], mode, n[4] == 1, n[5] == 1);
-    (answer(&r) == n[6]) & (r.unwrap_or(0) == n[7])
+    answer(&r) == n[6] && r.unwrap_or(0) == n[7]
 }
 
 // 5: start0..start3, flags, order, address, control, kind, start0..start3, flags, order after.
-fn fetch_agrees(n: [u32; 20]) -> bool {
+fn fetch_agrees(n: [u32; NUMBERS]) -> bool {
     let given = cache_of(n[1], n[2], n[3], n[4], n[5], n[6]);
     let after = cache_of(n[10], n[11], n[12], n[13], n[14], n[15]);
     let (kind, next) = match given.fetch(n[7], word(n[8])) {
         Ok(fetched) => (u32::from(fetched.kind), fetched.cache),
         Err(refused) => (u32::from(refused), given),
     };
-    (kind == n[9]) & (next == after)
+    kind == n[9] && next == after
 }
 
 // 6: seed low, seed high, words, word 0..11, answer.
-fn image_agrees(n: [u32; 20]) -> bool {
+fn image_agrees(n: [u32; NUMBERS]) -> bool {
     let mut m = [0u16; 12];
     let words = held(n[3], &m);
     let answer = answers::answer(&image::fill_image(&mut m[..words], wide(n[1], n[2])));
     let a = are_words([m[0], m[1], m[2], m[3]], n[4], n[5], n[6], n[7]);
     let b = are_words([m[4], m[5], m[6], m[7]], n[8], n[9], n[10], n[11]);
     let c = are_words([m[8], m[9], m[10], m[11]], n[12], n[13], n[14], n[15]);
-    (n[3] <= 12) & (answer == n[16]) & a & b & c
+    n[3] <= 12 && answer == n[16] && a && b && c
 }
 
 // 7: words a, words b, a0..a3, b0..b3, answer, count.
-fn changed_agrees(n: [u32; 20]) -> bool {
+fn changed_agrees(n: [u32; NUMBERS]) -> bool {
     let a = [word(n[3]), word(n[4]), word(n[5]), word(n[6])];
     let b = [word(n[7]), word(n[8]), word(n[9]), word(n[10])];
     let before = held(n[1], &a);
     let after = held(n[2], &b);
     let r = memory::changed(&a[..before], &b[..after]);
     let answer = answers::answer(&r);
-    (n[1] <= 4) & (n[2] <= 4) & (answer == n[11]) & (r.unwrap_or(0) == wide(n[12], 0))
+    n[1] <= 4 && n[2] <= 4 && answer == n[11] && r.unwrap_or(0) == wide(n[12], 0)
 }
 
 // How many words of the memory a call is lent: all of it where the vector asks for more.
@@ -259,12 +272,12 @@ fn held(words: u32, memory: &[u16]) -> usize
 
 // A number of 64 bits from its halves.
 fn wide(low: u32, high: u32) -> u64 {
-    u64::from(low) + 4294967296 * u64::from(high)
+    u64::from(low) + WHOLE * u64::from(high)
 }
 
 // A number as a word of memory.
 fn word(x: u32) -> u16 {
-    (x % 65536) as u16
+    (x % HALF) as u16
 }
 
 // Are these the four words?
@@ -282,7 +295,8 @@ fn cache_of(a: u32, b: u32, c: u32, d: u32, flags: u32, order: u32) -> Cache {
     }
 }
 
-// A segment from its start address and eight flags, flag 0 lowest.
+// A segment from its start address and eight flags, flag 0 lowest. (`c_state` has a function for
+// the numbers of its calls: there flags are 32 bits.)
 fn segment(start: u32, flags: u8) -> Segment {
     Segment {
         start,
@@ -291,20 +305,20 @@ fn segment(start: u32, flags: u8) -> Segment {
 }
 
 // The 20 numbers of a line.
-fn numbers(line: &[u8; LINE]) -> [u32; 20] {
-    let mut n = [0u32; 20];
-    for (number, text) in n.iter_mut().zip(line.chunks(9)) {
-        *number = text.iter().take(8).fold(0, |v, b| with_digit(v, *b));
+fn numbers(line: &[u8; LINE]) -> [u32; NUMBERS] {
+    let mut n = [0u32; NUMBERS];
+    for (number, text) in n.iter_mut().zip(line.chunks(DIGITS + 1)) {
+        *number = text.iter().take(DIGITS).fold(0, |v, b| with_digit(v, *b));
     }
     n
 }
 
-// A number with one digit more.
+// A number with one digit more, of which the first one goes.
 fn with_digit(v: u32, b: u8) -> u32 {
-    v % 268435456 * 16 + digit(b)
+    v % (1 << 28) * 16 + digit(b)
 }
 
-// A digit's value; 0 for another byte.
+// A digit's value; 0 for another byte. By hand: `to_digit` takes lower-case digits too.
 fn digit(b: u8) -> u32
     ensures { result ≤ 15 }
 {
@@ -325,7 +339,7 @@ fn is_placed(b: u8, i: usize) -> bool {
     if i == LINE - 1 {
         return b == b'\n';
     }
-    if i % 9 == 8 {
+    if i % (DIGITS + 1) == DIGITS {
         return b == b' ';
     }
     matches!(b, b'0'..=b'9' | b'A'..=b'F')
