@@ -54,20 +54,16 @@ module _ {m₀ : List ℕ} {d : Drawing} {k n : ℕ} where
     rows-drawn : row_drawn d from to count m ≡ visits d (k + i) count m
     rows-drawn = rw ((inv.at more).from_is, (inv.at more).to_is) (row-visits d (k + i) count m rows_row)
 
-    rows-visited : {m' : List ℕ} → m' ≡ row_drawn d from to count m → m' ≡ visits d k (i + count) m₀
-    rows-visited v = v ∙ rows-drawn ∙ ap (visits d (k + i) count) inv.drawn ∙ sym (visits-add d k i count m₀)
-
-    pub next-rows : {j : ℕ} {m' : List ℕ} {from' to' : ℕ} → j ≡ i + count → m' ≡ row_drawn d from to count m
+    pub next-rows : {m' : List ℕ} {from' to' : ℕ} → m' ≡ row_drawn d from to count m
         → from' ≡ (from + d.src.pitch) % 2 ^ 32 → to' ≡ (to + d.dest.pitch) % 2 ^ 32
-        → Rows m₀ d k n m' from' to' j
-    next-rows {j} {m'} {from'} {to'} ends v f t =
-        rw ends (record {
-          pos = inv.pos;
-          end_lt = inv.end_lt;
-          bound = rows_end;
-          drawn = rows-visited v;
-          at = next;
-        })
+        → Rows m₀ d k n m' from' to' (i + count)
+    next-rows {m'} {from'} {to'} v f t = record {
+      pos = inv.pos;
+      end_lt = inv.end_lt;
+      bound = rows_end;
+      drawn = v ∙ rows-drawn ∙ ap (visits d (k + i) count) inv.drawn ∙ sym (visits-add d k i count m₀);
+      at = next;
+    }
       where
         next : i + count < n → AtRow d from' to' (k + (i + count))
         next l =
@@ -81,7 +77,3 @@ module _ {m₀ : List ℕ} {d : Drawing} {k n : ℕ} where
               to_is = t ∙ ap (λ (x : ℕ). (x + d.dest.pitch) % 2 ^ 32) a.to_is
                   ∙ sym (address_of-down d.dest d.cols (k + i) inv.pos);
             })
-
-    -- the last row
-    pub last-rows : {m' : List ℕ} → n ≡ i + count → m' ≡ row_drawn d from to count m → m' ≡ visits d k n m₀
-    last-rows ends v = rw ends (rows-visited v)

@@ -1,13 +1,14 @@
 -- Visits one after the other: none, a slice and then another; the memory keeps its length and its words their 16 bits. What
 -- the first visit of a drawing in a colour draws.
 -- No contract cites this file. Assumes nothing.
-use Rattle.std.proofs.Common.{◌≡◌, ℕ, zero, suc, ◌+◌, ◌^◌, ◌<◌, List, length, refl, ap, ◌∙◌, add-zero, add_assoc, add-suc}
+use Rattle.std.proofs.Common.{◌≡◌, ℕ, zero, suc, ◌+◌, ◌*◌, ◌^◌, ◌<◌, ◌≤◌, List, length, refl, ap, ◌∙◌, add-zero, add_assoc, add-suc, pos_of_ne-zero, zero-mul, arith}
 use Rattle.memory.specs.Bits.{Memory}
 use Rattle.pixel.specs.Pixel.{top_of, plotted}
 use Rattle.walk.proofs.WalkLaws.{address_of-first}
 use Rattle.plot.specs.declared.Source.TheVariants.{Color}
 use Rattle.plot.specs.declared.Drawing.{Drawing}
-use Rattle.engine.specs.Engine.{src_of, dest_of, visit, visits}
+use Rattle.plot.specs.Drawing.{pixels}
+use Rattle.engine.specs.Engine.{visited_from, src_of, dest_of, visit, visits}
 use Rattle.row.specs.Row.{color_at, drawn_at}
 use Rattle.row.proofs.SourceLaws.{source-color}
 use Rattle.row.proofs.DrawnLaws.{length-drawn_at, memory-drawn_at}

@@ -19,11 +19,11 @@ use Rattle.pixel.proofs.PixelLaws.{pixel_of-le, pixel_of-lt, complement-pixel_of
 use Rattle.plot.specs.Word.{replaced}
 
 -- ---- sums cut to P bits
-top_of-le : (p : ℕ) → top_of p ≤ 65535
+pub top_of-le : (p : ℕ) → top_of p ≤ 65535
 top_of-le p = omega (arith, pow_mono {i = min p 16} {j = 16} (min-le_right p 16))
 
-pub and_top : (p x : ℕ) → bit_and x (top_of p) ≡ x % suc (top_of p)
-and_top p x = and_mask x (min p 16) ∙ ap (λ (y : ℕ). x % y) (sym (suc_ones (min p 16)))
+pub and-top : (p x : ℕ) → bit_and x (top_of p) ≡ x % suc (top_of p)
+and-top p x = and_mask x (min p 16) ∙ ap (λ (y : ℕ). x % y) (sym (suc_ones (min p 16)))
 
 -- ---- bits above the mask don't matter
 and_low : (p x : ℕ) {y : ℕ} → y < 2 ^ p → bit_and (bit_and x (2 ^ p - 1)) y ≡ bit_and x y
@@ -150,7 +150,7 @@ module _ (p pmask a w : ℕ) (hw : w < 2 ^ 16) where
   kept = omega (arith, pixel_of-le (2 ^ p - 1) w a)
 
   -- S may have bits above the pixel
-  word_after-replaced : (pp : ℕ) (t : Bool) (s : ℕ)
+  pub word_after-replaced : (pp : ℕ) (t : Bool) (s : ℕ)
       → (let planes : ℕ = complement (2 ^ p - 1) (pixel_of (2 ^ p - 1) pmask a) in
       let r : ℕ = bit_and (processed pp (2 ^ p - 1) (bit_and s planes) (bit_and (w / 2 ^ (a % 16)) planes)) planes in
       word_after pp t (2 ^ p - 1) pmask a (bit_and s (2 ^ p - 1)) w ≡ cond (t && eqb r 0) w (replaced w a planes r))
@@ -165,24 +165,3 @@ module _ (p pmask a w : ℕ) (hw : w < 2 ^ 16) where
           ≡ cond u w (replaced w a planes (bit_and x planes))
       go x true = kept
       go x false = drawn-replaced x
-
--- the word by what the code works out: the planes, the word shifted and the operation's result
-module _ (p pp : ℕ) (t : Bool) (pmask a s w : ℕ) {top planes old x : ℕ} (hw : w < 2 ^ 16) (htop : top ≡ top_of p)
-    (hplanes : planes ≡ complement top (pixel_of top pmask a)) (hold : old ≡ w / 2 ^ (a % 16))
-    (hx : x ≡ processed pp top (bit_and s planes) (bit_and old planes)) where
-  blended : word_after pp t top pmask a (bit_and s top) w ≡ cond (t && eqb (bit_and x planes) 0) w (replaced w a planes (bit_and x planes))
-  blended = rw (hx, hold, hplanes, htop) (word_after-replaced (min p 16) pmask a w hw pp t s)
-
-  -- under T, where the result is 0
-  pub blended-kept : t ≡ true → bit_and x planes ≡ 0 → w ≡ word_after pp t top pmask a (bit_and s top) w
-  blended-kept e z = sym (blended ∙ rw (e, z))
-
-  -- elsewhere
-  pub blended-written : (t && eqb (bit_and x planes) 0) ≡ false
-      → replaced w a planes (bit_and x planes) ≡ word_after pp t top pmask a (bit_and s top) w
-  blended-written e = sym (blended ∙ rw e)
-
--- no bit is let through above the pixel, and a pixel has at most 16
-pub planes-le : (p pmask a : ℕ) {top planes : ℕ} → top ≡ top_of p → planes ≡ complement top (pixel_of top pmask a)
-    → (planes ≤ top) × (top ≤ 65535)
-planes-le p pmask a h k = (rw k (complement-pixel_of-le _ _ _), rw h (top_of-le p))

@@ -1,7 +1,6 @@
 -- A word with a result in the place of some bits. The scope knows nothing of it. Assumes nothing.
 use Rattle.std.specs.Prelude.{ℕ, ◌+◌, ◌-◌, ◌*◌, ◌%◌, ◌^◌}
 use Rattle.std.specs.Int.Bits.{bit_and}
-unfoldable pub use Rattle.pixel.specs.PixelOp.{processed, pixel_operations}
 
 -- the word w with the enabled bits of its pixel at address a taken out, and r in their place
 unfoldable pub replaced : ℕ → ℕ → ℕ → ℕ → ℕ

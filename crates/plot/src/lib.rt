@@ -13,6 +13,9 @@ use walk::Walk;
 // 2^16: words are less.
 const WORDS: u32 = 65536;
 
+// All 32 bits.
+const ONES: u32 = 4294967295;
+
 // What a destination pixel is drawn from: COLOR1, a source pixel, or one bit that chooses COLOR1 or
 // COLOR0.
 #[derive(Clone, Copy)]
@@ -43,7 +46,7 @@ pub struct Drawing {
 pub fn pixels(d: Drawing) -> u64
     ensures { result ≡ pixels d }
 {
-    u64::from(d.cols) * u64::from(d.rows)
+    (d.cols as u64) * (d.rows as u64)
 }
 
 // A word at an address's place in it.
@@ -53,12 +56,18 @@ pub fn shifted(word: u32, address: u32) -> u32
     word >> (address % 16)
 }
 
+pub fn wide(word: u16) -> u32
+    ensures { result ≡ word }
+{
+    word as u32
+}
+
 // The word after its pixel at an address is drawn from s, of which the pixel's bits count.
 pub fn word_after(d: Drawing, address: u32, s: u32, word: u16) -> u16
     ensures { let top = top_of d.psize in
         result ≡ word_after d.pp d.t top d.pmask address (bit_and s top) word }
 {
-    let top = u32::from(pixel::top_of(d.psize));
+    let top = wide(pixel::top_of(d.psize));
     blend(d, top, address, s, word)
 }
 
@@ -69,7 +78,7 @@ fn blend(d: Drawing, top: u32, address: u32, s: u32, word: u16) -> u16
     ensures { result ≡ word_after d.pp d.t top d.pmask address (bit_and s top) word }
 {
     let planes = planes_at(d, top, address);
-    let old = shifted(u32::from(word), address) & planes;
+    let old = shifted(wide(word), address) & planes;
     let result = process(d, top, s & planes, old) & planes;
     if d.t {
         if result == 0 {
@@ -85,7 +94,7 @@ fn planes_at(d: Drawing, top: u32, address: u32) -> u32
     requires { top ≡ top_of d.psize }
     ensures { result ≡ complement top (pixel_of top d.pmask address) }
 {
-    shifted(u32::from(d.pmask) ^ u32::MAX, address) & top
+    shifted(wide(d.pmask) ^ ONES, address) & top
 }
 
 // The word with a result in the place of the enabled bits of its pixel at an address.
@@ -94,13 +103,12 @@ fn replace(word: u16, address: u32, planes: u32, res: u32) -> u16
     ensures { result ≡ replaced word address planes res }
 {
     let shift = address % 16;
-    let before = u32::from(word);
-    let kept = before - (before & (planes << shift));
+    let old = (word as u32) & (planes << shift);
+    let kept = (word as u32) - old;
     ((kept + (res << shift)) % WORDS) as u16
 }
 
-// The operation PP, in the scope's order; by its number, as `processed` and its theorems say it.
-#[tactic(auto, unfolding(crate::specs::Word::processed, crate::specs::Word::pixel_operations))]
+// The operation PP, in the scope's order.
 fn process(w: Drawing, top: u32, s: u32, d: u32) -> u32
     requires { (top ≡ top_of w.psize) × (s ≤ top) × (d ≤ top) }
     ensures { result ≡ processed w.pp top s d }
@@ -126,15 +134,14 @@ fn process(w: Drawing, top: u32, s: u32, d: u32) -> u32
         16 => add(w, top, s, d),
         17 => add_saturated(top, s, d),
         18 => subtract(w, top, s, d),
-        19 => d.saturating_sub(s),
-        20 => s.max(d),
-        21 => s.min(d),
+        19 => subtract_saturated(s, d),
+        20 => greater(s, d),
+        21 => lesser(s, d),
         _ => 0,
     }
 }
 
 // PP 16: S + D mod 2^P.
-#[tactic(auto, using(crate::proofs::WordLaws::and_top))]
 fn add(w: Drawing, top: u32, s: u32, d: u32) -> u32
     requires { (top ≡ top_of w.psize) × (s ≤ top) × (d ≤ top) }
     ensures { result ≡ (s + d) % suc top }
@@ -147,14 +154,34 @@ fn add_saturated(top: u32, s: u32, d: u32) -> u32
     requires { (s ≤ top) × (d ≤ top) × (top < 2 ^ 16) }
     ensures { result ≡ min (s + d) top }
 {
-    s + d.min(top - s)
+    s + lesser(d, top - s)
 }
 
 // PP 18: D - S mod 2^P.
-#[tactic(auto, using(crate::proofs::WordLaws::and_top))]
 fn subtract(w: Drawing, top: u32, s: u32, d: u32) -> u32
     requires { (top ≡ top_of w.psize) × (s ≤ top) × (d ≤ top) }
     ensures { result ≡ (d + suc top - s) % suc top }
 {
     (d + (top - s) + 1) & top
+}
+
+// PP 19: D - S, or 0 if negative.
+fn subtract_saturated(s: u32, d: u32) -> u32
+    ensures { result ≡ d - s }
+{
+    if s <= d { d - s } else { 0 }
+}
+
+// PP 20: the greater.
+fn greater(s: u32, d: u32) -> u32
+    ensures { result ≡ max s d }
+{
+    if s < d { d } else { s }
+}
+
+// PP 21: the lesser.
+fn lesser(s: u32, d: u32) -> u32
+    ensures { result ≡ min s d }
+{
+    if s < d { s } else { d }
 }

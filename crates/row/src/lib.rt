@@ -16,10 +16,12 @@ pub fn draw_row(memory: &mut [u16], d: Drawing, src: u32, dest: u32, n: u64)
     let colors = colors_of(d);
     let mut from = src;
     let mut to = dest;
-    for _ in 0..n {
+    let mut i: u64 = 0;
+    while i < n {
         draw_at(memory, d, colors, from, to);
-        from = from.wrapping_add(d.src.step);
-        to = to.wrapping_add(d.dest.step);
+        from = std::num::wrapping_add_u32(from, d.src.step);
+        to = std::num::wrapping_add_u32(to, d.dest.step);
+        i += 1;
     }
 }
 
@@ -42,10 +44,10 @@ fn source_at(memory: &[u16], d: Drawing, colors: [u32; 2], from: u32, to: u32) -
 {
     let source = d.source;
     match source {
-        Source::Color => plot::shifted(u32::from(d.color1), to),
+        Source::Color => plot::shifted(plot::wide(d.color1), to),
         Source::Pixels => {
             let word = memory::word_at(memory, (from / 16) as u64);
-            plot::shifted(u32::from(word), from)
+            plot::shifted(plot::wide(word), from)
         }
         Source::Bits => plot::shifted(color_at(memory, colors, from), to),
     }
@@ -64,5 +66,7 @@ fn color_at(memory: &[u16], colors: [u32; 2], from: u32) -> u32
 fn colors_of(d: Drawing) -> [u32; 2]
     ensures { result ≡ colors_of d }
 {
-    [u32::from(d.color0), u32::from(d.color1)]
+    let zero = plot::wide(d.color0);
+    let one = plot::wide(d.color1);
+    [zero, one]
 }

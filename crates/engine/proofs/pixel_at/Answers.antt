@@ -5,4 +5,4 @@ use Rattle.engine.proofs.pixel_at.Goals as goal
 pub returns : goal.returns
 unfolding address_of
 returns c =
-    rw c.from-wide.ensures at c.address_at.ensures
+    c.address_at.ensures

@@ -1,11 +1,11 @@
 -- `visit_rows` meets its contract: after each turn of the loop one more row is visited.
-use Rattle.std.proofs.Common.{ℕ, ◌+◌, ◌-◌, ◌^◌, ◌<◌, min, refl, ap, ◌∙◌, arith}
+use Rattle.std.proofs.Common.{◌+◌, ◌^◌, ◌<◌, arith}
 use Rattle.plot.proofs.DrawingLaws.{pixels-lt}
-use Rattle.engine.proofs.RowsLaws.{no_rows, next-rows, last-rows}
+use Rattle.engine.proofs.RowsLaws.{no_rows, next-rows}
 use Rattle.engine.proofs.visit_rows.Goals as goal
 
 -- the pixels end below 2^32
-end_lt : (c : goal.After-from-i-step) → c.args.k + c.args.n < 2 ^ 32
+end_lt : (c : goal.After-pixel_at-to) → c.args.k + c.args.n < 2 ^ 32
 end_lt c =
     let cols : c.args.d.cols < 2 ^ 16 = omega arith in
     let rows : c.args.d.rows < 2 ^ 16 = omega arith in
@@ -17,12 +17,5 @@ loop-i-init c =
 
 pub loop-i-preserved : goal.loop-i-preserved
 loop-i-preserved c =
-    next-rows c.loop-i.invariant c.loop-i-test.true
-    (c.min-count.ensures ∙ ap (λ (x : ℕ). min x (c.args.n - c.loop-i.i)) c.from-cols.ensures)
-    (omega (arith, c.min-count.ensures, c.from-cols.ensures, c.from-i-step.ensures)) c.draw_row.ensures refl refl
-
-pub returns-2 : goal.returns-2
-returns-2 c =
-    last-rows c.loop-i.invariant c.loop-i-test.true
-    (c.min-count.ensures ∙ ap (λ (x : ℕ). min x (c.args.n - c.loop-i.i)) c.from-cols.ensures)
-    (omega (arith, c.min-count.ensures, c.from-cols.ensures, c.from-i-step.ensures)) c.draw_row.ensures
+    next-rows c.loop-i.invariant c.loop-i-test.true c.least-count.ensures
+    c.draw_row.ensures c.wrapping_add_u32-from.ensures.value c.wrapping_add_u32-to.ensures.value

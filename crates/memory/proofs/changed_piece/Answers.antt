@@ -1,22 +1,22 @@
--- `memory::changed_piece` meets its contract: the count so far and that of the words left make the whole. Assumes nothing.
-use Rattle.std.proofs.Common.{ap₂, arith, inl, inr}
-use Rattle.std.specs.Iterator.Adapters.{zip_first, zip_second}
-use Rattle.std.specs.Slice.Iter.{iter_rest}
-use Rattle.memory.specs.Parts.{words_difference}
-use Rattle.memory.proofs.MemoryLaws.{memory-lent}
-use Rattle.memory.proofs.PartLaws.{difference-le, difference-none}
+-- `memory::changed_piece` meets its contract: the count so far is that of the words from `from` to the one reached. Assumes nothing.
+use mathlib.Core.Path.{sym, ap, ap₂, ◌∙◌}
+use Prim.Native.Nat.{◌+◌}
+use native.Mathlib.Nat.{add_assoc}
+use native.Mathlib.Numerals.{add-one}
+use native.Mathlib.Omega.{arith}
+use borrow.Author.Rules.{rules}
+use Rattle.memory.specs.Changed.{differing_by_word}
 use Rattle.memory.proofs.changed_piece.Goals as goal
 
-pub overflow_add-bits : goal.overflow_add-bits
-overflow_add-bits c =
-    let steps = c.in-Some.ensures.steps in
-    let m = memory-lent c.args.before.now (λ i. (c.type_inv.before i).fits) in
-    let m' = memory-lent c.args.after.now (λ i. (c.type_inv.after i).fits) in
-    omega (arith, c.loop-v.invariant.2, ap₂ words_difference steps.0 steps.1, c.difference.ensures.0, difference-le m m', c.requires)
-
-pub returns : goal.returns
-returns c =
-    let it = c.loop-v.v-iterator in
-    let left = difference-none (iter_rest (zip_first it)) (iter_rest (zip_second it))
-    (elim c.in-None.ensures.steps [ inl h ↦ inl h.1.0 | inr h ↦ inr h.1.0 ]) in
-    omega (arith, c.loop-v.invariant.2, left)
+pub loop-i-preserved : goal.loop-i-preserved
+unfolding differing_by_word
+loop-i-preserved c =
+    let x = c.args in
+    let m = x.before.now in
+    let m' = x.after.now in
+    let one = ap₂ ◌+◌ c.loop-i.invariant.0 c.difference.ensures.0 in (
+      sym (add_assoc (differing_by_word m m' x.from) c.loop-i.bits c.difference.result) ∙ one
+          ∙ ap (differing_by_word m m') (sym (add-one c.loop-i.i)),
+      search rules,
+      omega (arith, c.difference.ensures.1),
+    )

@@ -1,12 +1,16 @@
--- `memory::changed_piece` meets its contract: the count so far and that of the words left make the whole. Assumes nothing.
-use Rattle.std.proofs.Common.{◌≡◌, ◌+◌}
-use Rattle.std.specs.Iterator.Adapters.{zip_first, zip_second}
-use Rattle.std.specs.Slice.Iter.{iter_rest}
-use Rattle.memory.specs.Parts.{words_difference}
+-- `memory::changed_piece` meets its contract: the count so far is that of the words from `from` to the one reached. Assumes nothing.
+use mathlib.Core.Path.{◌≡◌}
+use Prim.Native.Nat.{◌+◌, ◌-◌, ◌*◌, ◌≤◌}
+use Rattle.memory.specs.Bits.{word_bits}
+use Rattle.memory.specs.Changed.{differing_by_word}
 use Rattle.memory.proofs.changed_piece.Given as goal
 
-abbrev pub invariant-loop-v : goal.invariant-loop-v
-invariant-loop-v l =
-    let it = l.v-iterator in
-    (goal.iterator-loop-v).can_next it × (goal.iterator-loop-v).is_finite it
-    × (l.bits + words_difference (iter_rest (zip_first it)) (iter_rest (zip_second it)) ≡ words_difference l.before l.after)
+abbrev pub invariant-loop-i : goal.invariant-loop-i
+invariant-loop-i l =
+    (differing_by_word l.before l.after l.from + l.bits ≡ differing_by_word l.before l.after l.i)
+    × (l.i ≤ l.to)
+    × (l.bits + word_bits * l.from ≤ word_bits * l.i)
+
+abbrev pub decreases-loop-i : goal.decreases-loop-i
+decreases-loop-i l =
+    l.to - l.i

@@ -7,5 +7,5 @@ use Rattle.plot.proofs.planes_at.Goals as goal
 pub returns : goal.returns
 returns c =
     let a = c.args in
-    rw (c.shifted.ensures, c.from.ensures, c.requires)
+    rw (c.shifted.ensures, c.wide.ensures, c.requires)
     (complement-shifted (min a.d.psize 16) a.d.pmask a.address (min-le_right a.d.psize 16))

@@ -7,12 +7,12 @@ use Rattle.row.proofs.source_at.Goals as goal
 pub returns-in-Color : goal.returns-in-Color
 unfolding pixel_of
 returns-in-Color c =
-    rw (c.shifted.ensures, c.from.ensures) (sym (source-color _ _ _ _ c.in-Color.is))
+    rw (c.shifted.ensures, c.wide.ensures) (sym (source-color _ _ _ _ c.in-Color.is))
 
 pub returns-in-Pixels : goal.returns-in-Pixels
 unfolding pixel_of
 returns-in-Pixels c =
-    rw (c.shifted-in-Pixels.ensures, c.from-in-Pixels.ensures, c.word_at-word.ensures)
+    rw (c.shifted-in-Pixels.ensures, c.wide-in-Pixels.ensures, c.word_at-word.ensures)
     (sym (source-pixels _ _ _ _ c.in-Pixels.is))
 
 pub returns-in-Bits : goal.returns-in-Bits
