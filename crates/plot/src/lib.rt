@@ -1,4 +1,5 @@
-// A drawing, and a pixel of it drawn into its word.
+// A drawing, and a pixel of it drawn into its word. What is small here and has a name in the library
+// (`greater`, `lesser`, `wide`) stays for speed, as the loop of `row`.
 #![tactic(auto)]
 
 ghost use Rattle.std.specs.Prelude.{◌≡◌, suc, ◌+◌, ◌-◌, ◌*◌, ◌/◌, ◌%◌, ◌^◌, ◌≤◌, ◌<◌, min, max};
