@@ -1,4 +1,4 @@
-// A drawing, and a pixel of it drawn into its word. What is small here and has a name in the library
+// A drawing, and a pixel of it drawn into its word. What is small here and the library has too
 // (`greater`, `lesser`, `wide`) stays for speed, as the loop of `row`.
 #![tactic(auto)]
 
