@@ -52,8 +52,7 @@ fn visit_range(memory: &mut [u16], d: Drawing, k: u64, n: u64)
     }
 }
 
-// The n pixels from the k-th on, which starts a row, are visited row by row. The loop, and `least`
-// below, stay for speed, as in `row`.
+// The n pixels from the k-th on, which starts a row, are visited row by row.
 fn visit_rows(memory: &mut [u16], d: Drawing, k: u64, n: u64)
     requires { (0 < d.cols) × (k % d.cols ≡ 0) × (k + n ≤ pixels d) }
     ensures { memory.new ≡ visits d k n memory.old }

@@ -1,5 +1,4 @@
-// A drawing, and a pixel of it drawn into its word. What is small here and the library has too
-// (`greater`, `lesser`, `wide`) stays for speed, as the loop of `row`.
+// A drawing, and a pixel of it drawn into its word.
 #![tactic(auto)]
 
 ghost use Rattle.std.specs.Prelude.{◌≡◌, suc, ◌+◌, ◌-◌, ◌*◌, ◌/◌, ◌%◌, ◌^◌, ◌≤◌, ◌<◌, min, max};
