@@ -19,12 +19,16 @@ pub fn is_bad_order(order: [u8; SEGMENTS]) -> bool
     beyond | twice
 }
 
-// The order with segment k as the latest used.
-pub fn used(mut order: [u8; SEGMENTS], k: u8) -> [u8; SEGMENTS]
+// The order with segment k as the latest used. By arrays: with `rotate_left` the library for C asks
+// for `memmove`.
+pub fn used(order: [u8; SEGMENTS], k: u8) -> [u8; SEGMENTS]
     ensures { result ≡ latest k order }
 {
-    if let Some(at) = order.iter().position(|x| *x == k) {
-        order[at..].rotate_left(1);
+    let [a, b, c, d] = order;
+    match order.iter().position(|x| *x == k) {
+        Some(0) => [b, c, d, a],
+        Some(1) => [a, c, d, b],
+        Some(2) => [a, b, d, c],
+        _ => order,
     }
-    order
 }

@@ -19,6 +19,17 @@ use operation::Operation;
 use run::Ran;
 use settings::Settings;
 
+// Copies a memory over another of its size. By index: with `copy_from_slice` the library for C asks
+// for `memmove`.
+fn copy(from: &[u16], to: &mut [u16])
+    requires { length from.now ≡ length to.old }
+    ensures { to.new ≡ from.now }
+{
+    for i in 0..to.len() {
+        to[i] = from[i];
+    }
+}
+
 // The image of a seed, made where the memory does not hold it already.
 fn prepare(memory: &mut [u16], seed: u64, held: Option<u64>)
     requires { (no_memory (length memory.old) ≡ false) × HoldsImage held memory.old }
@@ -37,7 +48,7 @@ fn run_over(image: &[u16], memory: &mut [u16], op: Operation, s: Settings) -> Ra
     ensures { (result ≡ ran_over op s image.now)
         × (memory.new ≡ drawn op s 0 unlimited image.now) }
 {
-    memory.copy_from_slice(image);
+    copy(image, memory);
     let o = drawing::draw(memory, op, s, 0, false, drawing::UNLIMITED);
     let changed = memory::changed(image, memory).unwrap_or(0);
     let time = fill_timing::fill_time(op, s, o.visited);

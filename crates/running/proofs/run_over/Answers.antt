@@ -13,5 +13,5 @@ returns c =
     let l : length c.draw-o.new.memory ≡ length image = omega arith in
     let n = counted-bits image c.draw-o.new.memory c.requires.1 l in
     let e = c.draw-o.ensures in
-    let o = c.copy_from_slice.ensures.after in
+    let o = c.copy.ensures in
     (rw (c.fill_time-time.ensures, c.unwrap_or-changed.ensures, c.changed.ensures, n, e.0, e.1, o), rw (e.1, o))
