@@ -94,6 +94,11 @@ fetched c address control =
     (Ok (record { kind = Disabled; cache = c }))
     (Ok (lookup c (start_address address) (subsegment_of address))))
 
+-- the state after a fetch: that of a refused one stays
+abbrev pub cache_left : Cache → Result Fetched Refused → Cache
+cache_left c (Ok f) = f.cache
+cache_left c (Err r) = c
+
 -- Fresh: no flags, addresses 0, segment 0 least recent and 3 latest
 abbrev pub fresh_cache : Cache
 fresh_cache = record { segments = replicate segment_count (no_flags 0); order = 0 ∷ 1 ∷ 2 ∷ 3 ∷ [] }

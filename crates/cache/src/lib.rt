@@ -7,7 +7,8 @@ ghost use Rattle.std.specs.Prelude.{◌≡◌, false, Some, ◌<◌};
 ghost use Rattle.answers.specs.Answer.{answer};
 ghost use Rattle.segments.specs.Segments.{segment_count, flag_count};
 ghost use Rattle.cache.specs.Cache.{bad_state, fetch_refusal, with_segment, matched, segment_miss};
-ghost use Rattle.cache.specs.Cache.{lookup, fetched, fresh_cache, kind_number, kind_name};
+ghost use Rattle.cache.specs.Cache.{lookup, fetched, cache_left, fresh_cache};
+ghost use Rattle.cache.specs.Cache.{kind_number, kind_name};
 
 use answers::Refused;
 use segments::{FLAGS, SEGMENTS, Segment};
@@ -97,6 +98,16 @@ impl Cache {
         }
         let sub = (address / 64 % 8) as usize;
         Ok(self.looked_up(address / SEGMENT_BITS, sub))
+    }
+
+    // The state after this fetch of it: the next state, or itself where the fetch is refused.
+    pub fn left(self, fetched: Result<Fetched, Refused>) -> Cache
+        ensures { result ≡ cache_left self fetched }
+    {
+        match fetched {
+            Ok(f) => f.cache,
+            Err(_) => self,
+        }
     }
 
     // A fetch of a subsegment of a start address, with the cache enabled.

@@ -57,17 +57,17 @@ fn show_cache(rt: &impl Print) {
     }
 }
 
-// One fetch, with its line; the next state, or the one given where it is refused.
+// One fetch, with its line, and the state after it.
 fn shown(rt: &impl Print, cache: Cache, address: u32) -> Cache {
-    match cache.fetch(address, 0) {
+    let done = cache.fetch(address, 0);
+    match done {
         Ok(fetched) => {
             let kind = fetched.kind;
             let _ = println!(rt; "  {address}\t{kind}");
-            fetched.cache
         }
         Err(_) => {
             let _ = println!(rt; "  {address}\trefused");
-            cache
         }
     }
+    cache.left(done)
 }

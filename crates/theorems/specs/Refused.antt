@@ -7,9 +7,8 @@ use Rattle.answers.specs.Answer.{answer}
 use Rattle.memory.specs.Bits.{no_memory}
 use Rattle.field.specs.Field as field
 use Rattle.image.specs.Image.{imaged}
-use Rattle.cache.specs.Cache.{bad_state, fetched}
+use Rattle.cache.specs.Cache.{bad_state, fetched, cache_left}
 use Rattle.cache.specs.declared.Cache.{Cache}
-use Rattle.cache.specs.declared.Fetched.{Fetched}
 use Rattle.answers.specs.declared.Refused.TheVariants.{CacheState}
 use Rattle.settings.specs.declared.Settings.{Settings}
 use Rattle.lone.specs.declared.Lone.{Lone}
@@ -92,11 +91,6 @@ WriteRefused =
 
 abbrev pub ImageRefused : Type 0
 ImageRefused = (m : List ℕ) (seed : ℕ) → no_memory (length m) ≡ true → imaged m seed ≡ m
-
--- the state after a fetch: that of a refused one stays
-abbrev pub cache_left : Cache → Result Fetched answers.Refused → Cache
-cache_left c (Ok f) = f.cache
-cache_left c (Err r) = c
 
 abbrev pub FetchRefused : Type 0
 FetchRefused =

@@ -234,11 +234,12 @@ fn states_agree(n: [u32; NUMBERS]) -> bool {
 fn fetch_agrees(n: [u32; NUMBERS]) -> bool {
     let given = cache_of(n[1], n[2], n[3], n[4], n[5], n[6]);
     let after = cache_of(n[10], n[11], n[12], n[13], n[14], n[15]);
-    let (kind, next) = match given.fetch(n[7], word(n[8])) {
-        Ok(fetched) => (u32::from(fetched.kind), fetched.cache),
-        Err(refused) => (u32::from(refused), given),
+    let done = given.fetch(n[7], word(n[8]));
+    let kind = match done {
+        Ok(fetched) => u32::from(fetched.kind),
+        Err(refused) => u32::from(refused),
     };
-    kind == n[9] && next == after
+    kind == n[9] && given.left(done) == after
 }
 
 // 6: seed low, seed high, words, word 0..11, answer.
