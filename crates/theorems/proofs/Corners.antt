@@ -1,4 +1,5 @@
 -- The proofs of specs/Corners.antt. Assumes nothing.
+use mathlib.Core.Path.{refl}
 use Rattle.theorems.specs.Corners.{DrawIgnores, LoneIgnores, OfCorners}
 use Rattle.theorems.proofs.CornerLaws as laws
 use Rattle.theorems.proofs.IgnoreLaws as ignore
@@ -11,6 +12,7 @@ lone-ignores s c same words a v = (
   ignore.linear-ignores s c same words a v,
   ignore.source-ignores s c same words a v,
   ignore.destination-ignores s c same words a v,
+  (refl, ignore.clip-ignores s c same words a v, ignore.v-ignores s c same words a v),
   ignore.lone_drawn-ignores s c same,
 )
 

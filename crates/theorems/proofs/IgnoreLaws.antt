@@ -25,7 +25,7 @@ use Rattle.array_refusal.specs.Refusal.{refusal_of, refusal}
 use Rattle.drawing.specs.declared.Outcome.{Outcome}
 use Rattle.drawing.specs.Draw.{outcome_at, outcome, drawn}
 use Rattle.lone.specs.declared.Lone.{Lone}
-use Rattle.lone.specs.Lone.{linear_pixel, xy_source, xy_destination}
+use Rattle.lone.specs.Lone.{linear_pixel, xy_source, xy_destination, lone_clip, lone_v}
 use Rattle.pixt.specs.Pixt.{pixel_drawn, lone_drawn}
 use Rattle.theorems.specs.Corners.{TwelveExactly}
 use Rattle.theorems.specs.Corners.{SameButCorner, with_control, handing}
@@ -80,6 +80,12 @@ module _ (s : Settings) (c : ℕ) (same : SameButCorner s.control c) (words a : 
   pub destination-ignores : xy_destination words (with_control s c) a v ≡ xy_destination words s a v
   unfolding xy_destination lowest
   destination-ignores = rw (same.pp, same.w)
+
+  pub clip-ignores : lone_clip (with_control s c) a ≡ lone_clip s a
+  clip-ignores = rw same.w
+
+  pub v-ignores : lone_v (with_control s c) a v ≡ lone_v s a v
+  v-ignores = rw same.w
 
 -- the memory that it leaves
 module _ (s : Settings) (c : ℕ) (same : SameButCorner s.control c) where

@@ -18,6 +18,7 @@ use Rattle.plot.specs.declared.Drawing.{Drawing}
 use Rattle.plot.specs.Drawing.{pixels}
 use Rattle.engine.specs.Engine.{dest_of, src_of}
 use Rattle.lone.specs.declared.Lone.{Lone}
+use Rattle.lone.specs.Lone.{pixel_address, lone_clip, lone_v}
 use Rattle.lone.specs.Lone.{linear_pixel, xy_source, xy_destination}
 use Rattle.pixt.specs.Pixt.{lone_drawn}
 use Rattle.operation.specs.declared.Operation.{Operation}
@@ -152,13 +153,17 @@ DrawIgnores =
     ≡ handing (with_control s c) (outcome op s place v budget words))
     × (drawn op (with_control s c) place budget m ≡ drawn op s place budget m)
 
--- A lone pixel: refusal, address and flags, and the memory that PIXT or DRAV leaves.
+-- A lone pixel: its refusal, or where it is and the flags; its address, what the window makes of it
+-- (the request) and V, refused or not; and the memory that PIXT or DRAV leaves.
 abbrev pub LoneIgnores : Type 0
 LoneIgnores =
     (s : Settings) (c : ℕ) → SameButCorner s.control c → (words a : ℕ) (v : Bool)
     → (linear_pixel words (with_control s c) a v ≡ linear_pixel words s a v)
     × (xy_source words (with_control s c) a v ≡ xy_source words s a v)
     × (xy_destination words (with_control s c) a v ≡ xy_destination words s a v)
+    × ((pixel_address (with_control s c) a ≡ pixel_address s a)
+    × (lone_clip (with_control s c) a ≡ lone_clip s a)
+    × (lone_v (with_control s c) a v ≡ lone_v s a v))
     × ((at : Result Lone Refused) (source : ℕ) (m : List ℕ)
     → lone_drawn (with_control s c) at source m ≡ lone_drawn s at source m)
 
