@@ -34,7 +34,7 @@ impl Segment {
     fn clashes(self, other: Segment) -> bool
         ensures { result ≡ clash self other }
     {
-        self.holds_some() & other.holds_some() & (self.start == other.start)
+        self.start == other.start && self.holds_some() && other.holds_some()
     }
 
     // Does the segment match the start address?
