@@ -4,10 +4,11 @@ use mathlib.Core.Bool.{Bool, true, false, not, cond}
 use mathlib.Core.List.{List, [], ◌∷◌}
 use Prim.Native.Nat.{ℕ, suc, ◌+◌, ◌-◌, ◌<◌, ◌≤◌}
 use native.Mathlib.Omega.{arith}
-use borrow.Author.Tests.{ltb-false}
+use native.Mathlib.Numerals.{add-one}
+use borrow.Author.Tests.{ltb-false, eq-eqb, ne_eqb}
 use lib.Dec.{eqb, ltb}
-use lib.ListN.{length, take, drop, length-drop, drop_of_length-le}
-use lib.Seq.{drop-drop, take_all}
+use lib.ListN.{length, get_or, take, drop, length-drop, drop_of_length-le}
+use lib.Seq.{drop-cons, drop-drop, take_all}
 use Rattle.std.specs.Prelude.{Some, None, unwrap_or}
 use Rattle.std.specs.List.{position_or_len, position, slice_split, onto_first}
 use Rattle.text.specs.Text.{up_to, in_front, parts}
@@ -79,9 +80,19 @@ parts-split mark (c ∷ s) = rw (parts-split mark s) (ap (cond (eqb c mark) ([] 
     front [] = refl
     front (p ∷ ps) = refl
 
--- The part at a place of the text, as a loop over the text finds its end
+-- The end of the part at a place of the text
 
 module _ (mark : ℕ) (text : List ℕ) (i : ℕ) where
+  -- a mark there ends it at once
+  pub up_to-here : i < length text → get_or text i 0 ≡ mark → i + length (up_to mark (drop i text)) ≡ i
+  unfolding up_to
+  up_to-here l e = rw (drop-cons text i 0 l, eq-eqb _ _ e) (omega arith)
+
+  pub up_to-next : i < length text → (get_or text i 0 ≡ mark → ⊥)
+      → i + length (up_to mark (drop i text)) ≡ (i + 1) + length (up_to mark (drop (i + 1) text))
+  unfolding up_to
+  up_to-next l n = rw (drop-cons text i 0 l, ne_eqb _ _ n, add-one) (omega arith)
+
   -- past the text's end the part is empty
   pub up_to-past : length text ≤ i → up_to mark (drop i text) ≡ []
   unfolding up_to

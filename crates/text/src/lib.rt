@@ -10,10 +10,15 @@ ghost use Rattle.text.specs.Number.{pushed, digits_of, number_of};
 pub fn part_end(text: &[u8], from: usize, mark: u8) -> usize
     ensures { result ≡ from + length (up_to mark (drop from text.now)) }
 {
-    let Some(rest) = text.get(from..) else {
+    if text.len() <= from {
         return from;
-    };
-    from + rest.iter().position(|c| *c == mark).unwrap_or(rest.len())
+    }
+    // many parts are empty
+    if text[from] == mark {
+        return from;
+    }
+    let rest = &text[from + 1..];
+    from + 1 + rest.iter().position(|c| *c == mark).unwrap_or(rest.len())
 }
 
 // The part that starts at `from`, as that part of the text: an empty one past the text's end.
