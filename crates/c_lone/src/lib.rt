@@ -34,7 +34,7 @@ pub fn pixel_call<F: FnOnce(&mut [u16], Settings, bool) -> Result<PixelResult, R
         → Called (F.post call) memory.old settings.now v register out.old
         result memory.new out.new }
 {
-    if bad_arguments(settings, out.len()) {
+    if bad_pixel(settings, out.len()) {
         return BAD_CALL;
     }
     let s = c_arrays::settings_in(settings);
@@ -47,14 +47,14 @@ pub fn pixel_call<F: FnOnce(&mut [u16], Settings, bool) -> Result<PixelResult, R
 }
 
 // Are the settings bad, or is there no room for the results?
-fn bad_arguments(settings: &[u32], room: usize) -> bool
+pub fn bad_pixel(settings: &[u32], room: usize) -> bool
     ensures { result ≡ ltb room pixel_result_count || bad_settings settings.now }
 {
     (room < PIXEL_RESULTS) | c_arrays::bad_settings(settings)
 }
 
 // Stores the results of a lone pixel at the array's start.
-fn hand_out(out: &mut [u32], r: PixelResult)
+pub fn hand_out(out: &mut [u32], r: PixelResult)
     ensures { out.new ≡ sets out.old 0 (pixel_numbers r) }
 {
     let results = [
