@@ -70,6 +70,21 @@ unfolding any
 any_none p q [] f e = refl
 any_none p q (x ∷ l) f e = rw (f x (or-eq-false (p x) _ e).0) (any_none p q l f (or-eq-false (p x) _ e).1)
 
+-- A list with an element more at the end
+
+pub any_snoc : {A : Type 0} (p : A → Bool) (x : A) (l : List A) → any p (l ++ (x ∷ [])) ≡ (p x || any p l)
+unfolding any
+any_snoc p x [] = refl
+any_snoc p x (y ∷ l) = rw (any_snoc p x l) (or-left-comm (p y) (p x) _)
+
+pub any_pair-snoc : {A : Type 0} (r : A → A → Bool) (symmetric : (a b : A) → r a b ≡ r b a) (x : A) (l : List A)
+    → any_pair r (l ++ (x ∷ [])) ≡ (any (r x) l || any_pair r l)
+unfolding any any_pair
+any_pair-snoc r s x [] = refl
+any_pair-snoc r s x (y ∷ l) =
+    rw (any_snoc (r y) x l, s y x)
+    (ap (λ (b : Bool). (r x y || any (r y) l) || b) (any_pair-snoc r s x l) ∙ or_swap (r x y) (any (r y) l) (any (r x) l) (any_pair r l))
+
 -- A list with an element changed
 
 -- to one that passes where some element does, or fails where all do
@@ -108,20 +123,6 @@ module _ {A : Type 0} (r : A → A → Bool) (symmetric : (a b : A) → r a b �
   any_pair-set-same x d (y ∷ l) zero h = ap (λ (p : A → Bool). any p l || any_pair r l) (fun_ext h)
   any_pair-set-same x d (y ∷ l) (suc i) h =
       rw (any-set-same (r y) x d l i (symmetric y x ∙ h y ∙ symmetric _ y), any_pair-set-same x d l i h)
-
--- A list with an element more at the end
-
-pub any_snoc : {A : Type 0} (p : A → Bool) (x : A) (l : List A) → any p (l ++ (x ∷ [])) ≡ (p x || any p l)
-unfolding any
-any_snoc p x [] = refl
-any_snoc p x (y ∷ l) = rw (any_snoc p x l) (or-left-comm (p y) (p x) _)
-
-pub any_pair-snoc : {A : Type 0} (r : A → A → Bool) (symmetric : (a b : A) → r a b ≡ r b a) (x : A) (l : List A)
-    → any_pair r (l ++ (x ∷ [])) ≡ (any (r x) l || any_pair r l)
-unfolding any any_pair
-any_pair-snoc r s x [] = refl
-any_pair-snoc r s x (y ∷ l) =
-    rw (any_snoc (r y) x l, any_pair-snoc r s x l, s y x) (or_swap (r x y) (any (r y) l) (any (r x) l) (any_pair r l))
 
 -- Two lists joined
 
