@@ -8,7 +8,7 @@ ghost use Rattle.address.specs.Coordinate.{x_of, y_of};
 ghost use Rattle.listing.specs.Listing.{put, put_if, index_after};
 ghost use Rattle.columns.specs.Columns.{columns_heading, columns_line};
 ghost use Rattle.columns.specs.Columns.{column_table, column_count};
-ghost use Rattle.columns.specs.Held.{held_text, held_line};
+ghost use Rattle.columns.specs.Held.{held_text, parts_text, held_line};
 
 use settings::Settings;
 
@@ -25,7 +25,7 @@ pub const LINE: usize = 212;
 const HALF: u32 = 65536;
 
 // The coordinate 0, as it is held.
-const ZERO: u16 = 32768;
+const ZERO: u64 = 32768;
 
 // The heading: the names of the columns.
 pub fn put_heading(out: &mut [u8], at: usize) -> usize
@@ -60,27 +60,28 @@ fn line(text: &mut [u8], columns: &[Held]) -> usize
     let last = COLUMNS - 1;
     let mut to = 0;
     for c in &columns[..last] {
-        to = column(text, to, *c, ascii::TAB);
+        let (coordinate, n) = c.parts();
+        to = column(text, to, coordinate, n, ascii::TAB);
     }
-    column(text, to, columns[last], ascii::LINE_END)
+    let (coordinate, n) = columns[last].parts();
+    column(text, to, coordinate, n, ascii::LINE_END)
 }
 
-// Puts the text of a column that fits, and the byte `end`.
-fn column(out: &mut [u8], at: usize, c: Held, end: u8) -> usize
-    requires { at + length (held_text c ++ (end ∷ [])) ≤ length out.old }
-    ensures value { result ≡ at + length (held_text c ++ (end ∷ [])) }
-    ensures out_after { out.new ≡ put at (held_text c ++ (end ∷ [])) out.old }
+// Puts the text of a column that fits, and the byte `end`. By the parts of what is held: the enum
+// whole would be handed over through memory.
+fn column(out: &mut [u8], at: usize, coordinate: bool, n: u64, end: u8) -> usize
+    requires { at + length (parts_text coordinate n ++ (end ∷ [])) ≤ length out.old }
+    ensures value { result ≡ at + length (parts_text coordinate n ++ (end ∷ [])) }
+    ensures out_after { out.new ≡ put at (parts_text coordinate n ++ (end ∷ [])) out.old }
 {
-    match c {
-        Held::Number(n) => put_bytes::number(out, at, n, end),
-        Held::Coordinate(c) => {
-            if c < ZERO {
-                let next = put_bytes::bytes(out, at, b"-");
-                return put_bytes::number(out, next, u64::from(ZERO - c), end);
-            }
-            put_bytes::number(out, at, u64::from(c - ZERO), end)
-        }
+    if !coordinate {
+        return put_bytes::number(out, at, n, end);
     }
+    if n < ZERO {
+        let next = put_bytes::bytes(out, at, b"-");
+        return put_bytes::number(out, next, ZERO - n, end);
+    }
+    put_bytes::number(out, at, n - ZERO, end)
 }
 
 // ---- what the columns hold
@@ -90,6 +91,18 @@ fn column(out: &mut [u8], at: usize, c: Held, end: u8) -> usize
 enum Held {
     Number(u64),
     Coordinate(u16),
+}
+
+impl Held {
+    // Is it a coordinate, and the number that is held?
+    fn parts(self) -> (bool, u64)
+        ensures { parts_text result.0 result.1 ≡ held_text self }
+    {
+        match self {
+            Held::Number(n) => (false, n),
+            Held::Coordinate(c) => (true, u64::from(c)),
+        }
+    }
 }
 
 // The columns of a point with these values of the fourteen names.

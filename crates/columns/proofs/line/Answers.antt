@@ -1,5 +1,5 @@
 -- `columns::line` meets its contract: each turn puts one column, and the last one ends the line. Assumes nothing.
-use mathlib.Core.Path.{◌≡◌, sym}
+use mathlib.Core.Path.{◌≡◌, sym, ◌∙◌}
 use mathlib.Core.List.{map}
 use Prim.Native.Nat.{◌<◌}
 use native.Mathlib.Omega.{arith}
@@ -22,7 +22,7 @@ column-to-requires c =
     let below : c.loop-c.c-index < 26 = omega (arith, length-take-le 26 cs (omega arith)) in
     let n = length-map cs held_text in
     texted-room (map held_text cs) c.args.text.now c.requires.room _ _ _ c.loop-c.invariant _
-    (text-before cs 26 _ below (omega arith)) (omega arith)
+    (text-before cs 26 _ below (omega arith) ∙ sym c.parts-coordinate.ensures) (omega arith)
 
 pub loop-c-preserved : goal.loop-c-preserved
 loop-c-preserved c =
@@ -30,7 +30,8 @@ loop-c-preserved c =
     let below : c.loop-c.c-index < 26 = omega (arith, length-take-le 26 cs (omega arith)) in
     let n = length-map cs held_text in
     let p = c.column-to.ensures in
-    texted-step (map held_text cs) c.args.text.now c.requires.room _ _ _ c.loop-c.invariant _ (text-before cs 26 _ below (omega arith)) _ _
+    texted-step (map held_text cs) c.args.text.now c.requires.room _ _ _ c.loop-c.invariant _
+    (text-before cs 26 _ below (omega arith) ∙ sym c.parts-coordinate.ensures) _ _
     (omega arith) p.value p.out_after
 
 pub column-requires : goal.column-requires
@@ -39,7 +40,7 @@ column-requires c =
     let last : c.loop-c.c-index ≡ 26 = omega (arith, length-take-le 26 cs (omega arith)) in
     let n = length-map cs held_text in
     texted-room-last (map held_text cs) c.args.text.now c.requires.room _ _ _ c.loop-c.invariant _
-    (text-at cs 26 _ last (omega arith)) (omega arith)
+    (text-at cs 26 _ last (omega arith) ∙ sym c.parts-coordinate-2.ensures) (omega arith)
 
 pub returns : goal.returns
 returns c =
@@ -48,6 +49,6 @@ returns c =
     let n = length-map cs held_text in
     let p = c.column.ensures in
     let d = texted-end (map held_text cs) c.args.text.now c.requires.room _ _ _ c.loop-c.invariant _
-    (text-at cs 26 _ last (omega arith)) _ _
+    (text-at cs 26 _ last (omega arith) ∙ sym c.parts-coordinate-2.ensures) _ _
     (omega arith) p.value p.out_after in
     record { value = d.0; text_after = d.1 }
