@@ -66,13 +66,13 @@ fn values_of(line: &[u8]) -> Option<&[u8]> {
     line.get(tabs::third_at(line)..)
 }
 
-// The first of a line's values that is too large for its name or stands before.
+// The first of a line's values that is too large for its name or stands before. All are numbers, as
+// 20 comes first, and a number has one writing.
 fn too_large_or_twice<'a>(line: &[u8], values: &'a [u8]) -> Option<&'a [u8]> {
     let greatest = names::greatest(line::name_of(line));
     for (i, field) in values.split(is_tab).enumerate() {
-        let value = tabs::field_value(field);
         let mut before = values.split(is_tab).take(i);
-        if greatest < value || before.any(|earlier| tabs::field_value(earlier) == value) {
+        if greatest < tabs::field_value(field) || before.any(|earlier| earlier == field) {
             return Some(field);
         }
     }
